@@ -1,0 +1,4 @@
+pub mod Refusals
+pub mod Values
+pub mod Texts
+pub mod Tokens
