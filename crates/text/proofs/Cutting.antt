@@ -124,3 +124,7 @@ feeds-count bs = length-map (linesOf bs) partsOf ∙ feeds-lines bs
 -- in a line there is one line more than have yet to begin
 pub line-counted : (p : Position) (bs : Bytes) → inLine p ≡ true → length (linesFrom p (partsByLine bs)) ≡ lineFeeds bs + 1
 line-counted p bs h = ap length (in-line p (partsByLine bs) h) ∙ omega (arith, feeds-count bs)
+
+-- a text has no more lines than bytes
+pub lines-le : (bs : Bytes) → length (partsByLine bs) ≤ length bs
+lines-le bs = omega (arith, feeds-count bs, feeds-le bs)

@@ -5,13 +5,13 @@ use mathlib.Core.Bool.{true, false, cond}
 use mathlib.Core.List.{List, [], _∷_, _++_, map}
 use Prim.Native.Nat.{ℕ, zero, suc, _+_, _<_, _-_, _≤_}
 use native.Mathlib.Omega.{arith}
-use lib.Dec.{eqb}
+use lib.Dec.{eqb, ltb}
 use lib.ListN.{length, getD}
 use Rattle.std.proofs.shelf.Elements.{all-append}
 use Rattle.std.proofs.shelf.Lists.{append-nil, append-assoc, length-push, getD-push}
-use Rattle.std.proofs.shelf.Tests.{cases-bool, cond-true, cond-false, eqb-true, eqb-false, ne-eqb, and-right, and-parts, and-from, eq-eqb, le-leb, false≢true}
+use Rattle.std.proofs.shelf.Tests.{cases-bool, cond-true, cond-false, eqb-true, eqb-false, ne-eqb, and-right, and-parts, and-from, eq-eqb, le-leb, lt-ltb, false≢true}
 use Rattle.std.specs.shelf.Lists.{joined, All}
-use Rattle.text.specs.Texts.{Bytes, Parts, isText, onFirst, between, linesOf, partsOf, partsByLine, lineText, textOf, Lacks, Plain, PlainLine}
+use Rattle.text.specs.Texts.{Bytes, Parts, isText, onFirst, between, linesOf, partsOf, partsByLine, partText, lineText, textOf, Lacks, Plain, PlainLine}
 use Rattle.text.proofs.Cutting.{between-cut, between-whole, lines-cut}
 
 pub no-text : (bs : Bytes) → (0 < length bs → getD bs (length bs - 1) 0 ≡ 10 → ⊥) → false ≡ isText bs
@@ -23,11 +23,16 @@ last-of b c bs e =
     let p : length (b ∷ c ∷ bs) - 1 ≡ suc (length (c ∷ bs) - 1) = omega arith in
     sym (ap (λ k. getD (b ∷ c ∷ bs) k 0) p) ∙ e
 
+more-parts : {A : Type 0} (q : A) (qs : List A) → ltb 0 (length (q ∷ qs)) ≡ true
+more-parts q qs = lt-ltb 0 (length (q ∷ qs)) (omega arith)
+
+line-two : (p q : Bytes) (ps : Parts) → lineText (p ∷ q ∷ ps) ≡ p ++ (59 ∷ lineText (q ∷ ps))
+line-two p q ps = ap (λ m. partText p m ++ lineText (q ∷ ps)) (more-parts q ps) ∙ append-assoc p (59 ∷ []) (lineText (q ∷ ps))
+
 -- a byte in front of the first part is in front of the line
 line-first : (b : ℕ) (parts : Parts) → 0 < length parts → lineText (onFirst b parts) ≡ b ∷ lineText parts
 line-first b [] h = absurd (omega arith)
-line-first b (p ∷ []) h = refl
-line-first b (p ∷ q ∷ ps) h = refl
+line-first b (p ∷ ps) h = refl
 
 some-first : (b : ℕ) (ls : List Bytes) → 0 < length ls → 0 < length (onFirst b ls)
 some-first b [] h = h
@@ -43,7 +48,7 @@ some-parts (b ∷ bs) =
 
 line-more : (parts : Parts) → 0 < length parts → lineText ([] ∷ parts) ≡ 59 ∷ lineText parts
 line-more [] h = absurd (omega arith)
-line-more (p ∷ ps) h = refl
+line-more (p ∷ ps) h = line-two [] p ps
 
 -- the parts of a line joined are the line
 line-joined : (bs : Bytes) → lineText (partsOf bs) ≡ bs ++ (10 ∷ [])
@@ -93,8 +98,8 @@ body p [] = p
 body p (q ∷ qs) = p ++ (59 ∷ body q qs)
 
 line-body : (p : Bytes) (ps : Parts) → lineText (p ∷ ps) ≡ body p ps ++ (10 ∷ [])
-line-body p [] = refl
-line-body p (q ∷ qs) = ap (λ t. p ++ (59 ∷ t)) (line-body q qs) ∙ sym (append-assoc p (59 ∷ body q qs) (10 ∷ []))
+line-body p [] = append-nil (p ++ (10 ∷ []))
+line-body p (q ∷ qs) = line-two p q qs ∙ ap (λ t. p ++ (59 ∷ t)) (line-body q qs) ∙ sym (append-assoc p (59 ∷ body q qs) (10 ∷ []))
 
 body-lacks : (p : Bytes) (ps : Parts) → Plain p → All Plain ps → Lacks 10 (body p ps)
 body-lacks p [] h k = h .1
@@ -116,17 +121,17 @@ text-apart [] h = refl
 text-apart (l ∷ ls) h = line-apart l (textOf ls) (h .0) ∙ ap (λ t. l ∷ t) (text-apart ls (h .1))
 
 -- a joined text ends with a line feed
-line-ends : (parts : Parts) → (front : Bytes) × (lineText parts ≡ front ++ (10 ∷ []))
-line-ends [] = ([], refl)
-line-ends (p ∷ ps) = (body p ps, line-body p ps)
+line-ends : (parts : Parts) → 0 < length parts → (front : Bytes) × (lineText parts ≡ front ++ (10 ∷ []))
+line-ends [] h = absurd (omega arith)
+line-ends (p ∷ ps) h = (body p ps, line-body p ps)
 
-text-ends : (l : Parts) (ls : List Parts) → (front : Bytes) × (textOf (l ∷ ls) ≡ front ++ (10 ∷ []))
-text-ends l [] = let w = line-ends l in (w .0, append-nil (lineText l) ∙ w .1)
-text-ends l (m ∷ ms) = let w = text-ends m ms in (lineText l ++ w .0, ap (λ t. lineText l ++ t) (w .1) ∙ sym (append-assoc (lineText l) (w .0) (10 ∷ [])))
+text-ends : (l : Parts) (ls : List Parts) → PlainLine l → All PlainLine ls → (front : Bytes) × (textOf (l ∷ ls) ≡ front ++ (10 ∷ []))
+text-ends l [] h hs = let w = line-ends l (h .0) in (w .0, append-nil (lineText l) ∙ w .1)
+text-ends l (m ∷ ms) h hs = let w = text-ends m ms (hs .0) (hs .1) in (lineText l ++ w .0, ap (λ t. lineText l ++ t) (w .1) ∙ sym (append-assoc (lineText l) (w .0) (10 ∷ [])))
 
-pub text-of-lines : (l : Parts) (ls : List Parts) (bs : Bytes) → textOf (l ∷ ls) ≡ bs → length bs ≤ 65535 → isText bs ≡ true
-text-of-lines l ls bs e few =
-    let w = text-ends l ls in
+pub text-of-lines : (l : Parts) (ls : List Parts) (bs : Bytes) → All PlainLine (l ∷ ls) → textOf (l ∷ ls) ≡ bs → length bs ≤ 65535 → isText bs ≡ true
+text-of-lines l ls bs h e few =
+    let w = text-ends l ls (h .0) (h .1) in
     let is : bs ≡ w .0 ++ (10 ∷ []) = sym e ∙ w .1 in
     let long : length bs - 1 ≡ length (w .0) = omega (arith, ap length is, length-push (w .0) 10) in
     and-from _ _ (le-leb (length bs) 65535 few) (eq-eqb _ 10 ((λ i. getD (is i) (long i) 0) ∙ getD-push (w .0) 10 0 (length (w .0)) refl))

@@ -10,17 +10,19 @@ use native.Mathlib.Omega.{arith}
 use lib.Dec.{eqb, leb}
 use lib.ListN.{length, getD, take, drop}
 use Rattle.std.proofs.shelf.Decimals.{decimal-value}
+use Rattle.std.proofs.shelf.Elements.{all-from-getD}
 use Rattle.std.proofs.shelf.Lists.{at-drop-more, take-rest, nil-from-length}
-use Rattle.std.proofs.shelf.Numerals.{Numerals, numerals-by-value, tells-allDigits, value-short}
+use Rattle.std.proofs.shelf.Numerals.{Numerals, numerals-by-value, tells-allDigits, value-short, not-in-digits}
 use Rattle.std.proofs.shelf.Tests.{cases-bool, cond-true, cond-false, and-from, and-left, lt-ltb, le-ltb, and-parts, ne-eqb, eq-eqb, eqb-true, eqb-false, le-leb, leb-true}
 use Rattle.std.specs.Options.{okOr}
 use Rattle.std.specs.Reads.{value, valueAfter}
 use Rattle.std.specs.Results.{Cases}
-use Rattle.std.specs.Text.{asciiDigit, digitValue}
+use Rattle.std.specs.Text.{In, asciiDigit, digitValue}
 use Rattle.std.specs.Written.{decimal}
 use Rattle.std.specs.shelf.Text.{allDigits}
 use Rattle.std.specs.declared.option.Option.{Option}
 use Rattle.std.specs.declared.option.Option.the-variants.{Some, None}
+use Rattle.text.specs.Texts.{Lacks, Plain}
 use Rattle.text.specs.Values.{Writes, digitsFrom, zeroAlone, valueOf}
 
 -- seven digits fit a u32
@@ -123,3 +125,10 @@ value-law part e =
     cases-option : (o : Option ℕ) (P : Option ℕ → Type 0) → (o ≡ None → P None) → ((n : ℕ) → o ≡ Some n → P (Some n)) → P o
     cases-option None P a b = a refl
     cases-option (Some n) P a b = b n refl
+
+-- no digit is a semicolon or a line feed
+pub writes-plain : (part : List ℕ) (n : ℕ) → Writes part n → Plain part
+writes-plain part n w = (lacks 59 (λ i. omega arith), lacks 10 (λ i. omega arith))
+  where
+    lacks : (s : ℕ) → (In 48 57 s → ⊥) → Lacks s part
+    lacks s out = all-from-getD (λ b. b ≡ s → ⊥) part 0 (not-in-digits own part s (w .digits) out)

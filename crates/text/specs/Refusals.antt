@@ -65,6 +65,11 @@ atPlace n (Falling field) = Falling field
 atPlace n AnnexLines = AnnexLines
 atPlace n (Buffer needed) = Buffer needed
 
+-- r with its value changed by f
+abbrev pub onOk : {X Y E : Type 0} → (X → Y) → Result X E → Result Y E
+onOk f (Ok x) = Ok (f x)
+onOk f (Err e) = Err e
+
 -- r with its error changed by f
 abbrev pub onErr : {X E F : Type 0} → (E → F) → Result X E → Result X F
 onErr f (Ok x) = Ok x

@@ -4,7 +4,7 @@ use mathlib.Core.Bool.{Bool, cond, _&&_}
 use mathlib.Core.List.{List, [], _∷_, _++_, map}
 use Prim.Native.Nat.{ℕ, suc, _-_, _≤_}
 use denote.Ref.{RefT}
-use lib.Dec.{eqb, leb}
+use lib.Dec.{eqb, leb, ltb}
 use lib.ListN.{length, getD}
 use Rattle.std.specs.Options.{Cases}
 use Rattle.std.specs.declared.option.Option.{Option}
@@ -44,11 +44,18 @@ partsOf line = between 59 ([] ∷ []) line
 abbrev pub partsByLine : Bytes → List Parts
 partsByLine text = map partsOf (linesOf text)
 
--- a line's text: the parts joined by semicolons and ended by a line feed
+-- the byte behind a part: a semicolon if more parts follow, else a line feed
+abbrev pub ending : Bool → ℕ
+ending more = cond more 59 10
+
+-- a part and its ending
+abbrev pub partText : Bytes → Bool → Bytes
+partText part more = part ++ (ending more ∷ [])
+
+-- a line's text: its parts joined by semicolons and ended by a line feed
 abbrev pub lineText : Parts → Bytes
-lineText [] = 10 ∷ []
-lineText (part ∷ []) = part ++ (10 ∷ [])
-lineText (part ∷ next ∷ parts) = part ++ (59 ∷ lineText (next ∷ parts))
+lineText [] = []
+lineText (part ∷ parts) = partText part (ltb 0 (length parts)) ++ lineText parts
 
 -- the text of these lines, one after the other
 abbrev pub textOf : List Parts → Bytes

@@ -9,5 +9,4 @@ pub use refusals::Refusal;
 pub use refusals::ResultLocated;
 pub use tokens::Lexer;
 pub use tokens::Token;
-pub use tokens::is_text;
 pub use values::value;

@@ -4,7 +4,7 @@ ghost use mathlib.Core.Path.{_≡_};
 ghost use Rattle.text.specs.Refusals.{numbersOf, atLine, atPlace, onErr};
 
 // A text line counts from 1, the names being line 1, and is 0 outside a text; places and fields count from 1.
-#[derive(Clone, Copy, Debug, PartialEq, Eq)]
+#[derive(Clone, Copy)]
 pub enum Refusal {
     // The rows for a sheet are none, or more than 256.
     Rows,

@@ -1,21 +1,26 @@
 // The lexer: cuts a text into tokens that are parts of the caller's bytes. It copies nothing.
 ghost use mathlib.Core.Path.{_≡_};
-ghost use mathlib.Core.Bool.{true};
+ghost use mathlib.Core.Bool.{true, cond};
 ghost use mathlib.Core.List.{List, _∷_};
 ghost use Prim.Native.Nat.{ℕ, _≤_};
 ghost use lib.Dec.{eqb};
 ghost use lib.ListN.{length};
 ghost use Rattle.std.specs.Options.{mapped};
+ghost use Rattle.std.specs.Vec.{made};
+ghost use Rattle.std.specs.declared.result.Result.the-variants.{Ok, Err};
+ghost use Rattle.text.specs.declared.refusals.Refusal.the-variants.{Text};
+ghost use Rattle.text.specs.Refusals.{onOk};
 ghost use Rattle.std.specs.declared.option.Option.the-variants.{Some};
 ghost use Rattle.std.specs.shelf.Lists.{All};
 ghost use Rattle.text.specs.Texts.{Parts, isText, partsOf, partsByLine, lineFeeds, textOf, PlainLine, Cuts};
 ghost use Rattle.text.specs.Tokens.{ahead, lexeme, Gives, partsBehind, inLine, thisLine, nextPart, afterNext};
+use crate::refusals::Refusal;
 
 // The most bytes that a text may have.
 const MOST_BYTES: usize = 65535;
 
 // Whether these bytes may be read as a text at all.
-pub fn is_text(bytes: &[u8]) -> bool
+fn is_text(bytes: &[u8]) -> bool
     ensures { λ r. ⌜ r ≡ isText (now (bytes .entry)) ⌝ }
 {
     match bytes {
@@ -24,7 +29,7 @@ pub fn is_text(bytes: &[u8]) -> bool
     }
 }
 
-#[derive(Clone, Copy, Debug)]
+#[derive(Clone, Copy)]
 pub enum Token<'t> {
     // A part of the first line.
     Name(&'t [u8]),
@@ -87,17 +92,20 @@ fn line_feeds(bytes: &[u8]) -> usize
 
 impl<'t> Lexer<'t> {
     // A lexer at the start of a text. What it gives, joined again, is the text; and what was joined comes apart again.
-    pub fn new(text: &'t [u8]) -> Self
-        ensures ahead { λ r. ⌜ ahead r ≡ partsByLine (now (text .entry)) ⌝ }
-        ensures names { λ r. ⌜ r .«in_names» ≡ true ⌝ }
-        ensures joined { λ r. ⌜ (isText (now (text .entry)) ≡ true → textOf (ahead r) ≡ now (text .entry)) ⌝ }
-        ensures apart { λ r. ⌜ ((lines : List Parts) → All PlainLine lines → textOf lines ≡ now (text .entry) → ahead r ≡ lines) ⌝ }
+    pub fn open(text: &'t [u8]) -> Result<Lexer<'t>, Refusal>
+        ensures ahead { λ r. ⌜ onOk ahead r ≡ cond (isText (now (text .entry))) (Ok (partsByLine (now (text .entry)))) (Err Text) ⌝ }
+        ensures names { λ r. ⌜ made r (λ l. l .«in_names» ≡ true) ⌝ }
+        ensures joined { λ r. ⌜ made r (λ l. textOf (ahead l) ≡ now (text .entry)) ⌝ }
+        ensures apart { λ r. ⌜ made r (λ l. (lines : List Parts) → All PlainLine lines → textOf lines ≡ now (text .entry) → ahead l ≡ lines) ⌝ }
     {
-        Lexer {
+        if !is_text(text) {
+            return Err(Refusal::Text);
+        }
+        Ok(Lexer {
             rest: text,
             position: Position::LineStart,
             in_names: true,
-        }
+        })
     }
 
     // The next part of a line of which `line` is left.

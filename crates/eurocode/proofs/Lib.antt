@@ -1,0 +1,3 @@
+pub mod Tabled
+pub mod Rising
+pub mod Sized
