@@ -1,0 +1,5 @@
+pub mod Tables
+pub mod Bearing
+pub mod Turns
+pub mod Opening
+pub mod Saying

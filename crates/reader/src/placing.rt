@@ -1,0 +1,70 @@
+// The names in a text's first line, and the place of each.
+ghost use mathlib.Core.Path.{_≡_};
+ghost use lib.ListN.{length};
+ghost use Rattle.std.specs.Orderings.{Decides};
+ghost use Rattle.std.specs.Vec.{made};
+ghost use Rattle.text.specs.Refusals.{onOk};
+ghost use Rattle.text.specs.Tokens.{ahead, thisLine, laterLines};
+ghost use Rattle.reader.specs.Names.{Finds, allPlaced, placesOf};
+use crate::names::Named;
+use text::Lexer;
+use text::Refusal;
+
+fn same(a: &[u8], b: &[u8]) -> bool
+    ensures { λ r. ⌜ Decides r (now (a .entry) ≡ now (b .entry)) ⌝ }
+{
+    a == b
+}
+
+// The field of this name.
+fn find<N: Named>(named: &N, name: &[u8]) -> Option<usize>
+    ensures { λ r. ⌜ Finds (now (name .entry)) (names (now (named .entry))) r ⌝ }
+{
+    for field in 0..named.field_count() {
+        if same(named.field_name(field), name) {
+            return Some(field);
+        }
+    }
+    None
+}
+
+// Whether each field has a place, which 0 is not.
+fn all_placed(places: &[u32]) -> bool
+    ensures { λ r. ⌜ r ≡ allPlaced (now (places .entry)) ⌝ }
+{
+    for place in places {
+        if *place == 0 {
+            return false;
+        }
+    }
+    true
+}
+
+// Passes the first line, and notes for each field the place at which its name stands.
+pub(crate) fn place_names<N: Named>(
+    named: &N,
+    lexer: &mut Lexer,
+    places: &mut [u32],
+) -> Result<(), Refusal>
+    requires table { ⌜ length (now places) ≡ length (names (now named)) ⌝ }
+    ensures places { λ r. ⌜ onOk (λ _. now (places .exit)) r ≡ placesOf (names (now (named .entry))) (thisLine (ahead (now (lexer .entry)))) ⌝ }
+    ensures rest { λ r. ⌜ made r (λ _. ahead (now (lexer .exit)) ≡ laterLines (ahead (now (lexer .entry)))) ⌝ }
+{
+    places.fill(0);
+    let mut place = 0;
+    while let Some(name) = lexer.next_part() {
+        place += 1;
+        let Some(field) = find(named, name) else {
+            return Err(Refusal::Name { place });
+        };
+        if places[field] != 0 {
+            return Err(Refusal::Name { place });
+        }
+        places[field] = place;
+    }
+    if all_placed(places) {
+        Ok(())
+    } else {
+        Err(Refusal::Missing)
+    }
+}
