@@ -1,4 +1,5 @@
 pub mod Tables
+pub mod Naming
 pub mod Bearing
 pub mod Turns
 pub mod Opening

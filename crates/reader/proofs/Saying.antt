@@ -42,11 +42,11 @@ then-ok : (o : Option ℕ) (p : ℕ) (r : Result (List ℕ) Refusal) (vs : List 
 then-ok None p r vs e = absurd (err-ok e)
 then-ok (Some v) p r vs e = let w = on-ok (λ ws. v ∷ ws) r vs e in (v, w .0, refl, w .1, w .2)
 
-line-ok : (l : Result (List ℕ) Refusal) (r : Result (List (List ℕ)) Refusal) (ls : List (List ℕ)) → lineThen l r ≡ Ok ls → (k : List ℕ) × (ks : List (List ℕ)) × (l ≡ Ok k) × (r ≡ Ok ks) × (ls ≡ k ∷ ks)
+pub line-ok : (l : Result (List ℕ) Refusal) (r : Result (List (List ℕ)) Refusal) (ls : List (List ℕ)) → lineThen l r ≡ Ok ls → (k : List ℕ) × (ks : List (List ℕ)) × (l ≡ Ok k) × (r ≡ Ok ks) × (ls ≡ k ∷ ks)
 line-ok (Ok k) r ls e = let w = on-ok (λ ks. k ∷ ks) r ls e in (k, w .0, refl, w .1, w .2)
 line-ok (Err d) r ls e = absurd (err-ok e)
 
-under-ok : (r : Result (List ℕ) Refusal) (ls : List Parts) (lines : List (List ℕ)) → linesUnder r ls ≡ Ok lines → (t : List ℕ) × (r ≡ Ok t) × (linesFrom t 2 ls ≡ Ok lines)
+pub under-ok : (r : Result (List ℕ) Refusal) (ls : List Parts) (lines : List (List ℕ)) → linesUnder r ls ≡ Ok lines → (t : List ℕ) × (r ≡ Ok t) × (linesFrom t 2 ls ≡ Ok lines)
 under-ok (Ok t) ls lines e = (t, refl, e)
 under-ok (Err d) ls lines e = absurd (err-ok e)
 

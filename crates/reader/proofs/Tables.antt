@@ -19,7 +19,7 @@ use Rattle.text.specs.Tokens.{thisLine, laterLines, nextPart, afterNext}
 use Rattle.text.specs.declared.refusals.Refusal.{Refusal}
 use Rattle.text.specs.declared.refusals.Refusal.the-variants.{Name, Missing}
 use Rattle.text.specs.Texts.{Bytes, Parts}
-use Rattle.reader.specs.Names.{Unlike, placeFrom, placeIn, stands, allPlaced, placesFrom, placesOf, allUnlike}
+use Rattle.reader.specs.Names.{Unlike, placeFrom, placeIn, stands, allPlaced, placesFrom, placesOf}
 
 -- all_placed
 pub placed-stops : (ps : List ℕ) (i : ℕ) → i < length ps → getD ps i 0 ≡ 0 → false ≡ allPlaced (drop i ps)
@@ -174,14 +174,3 @@ pub placing-all : (ns : List Bytes) (entry lines : List Parts) (places : List �
 placing-all ns entry [] places place h e = ap (λ t. cond (allPlaced t) (Ok t) (Err Missing)) (h .table) ∙ h .left
 placing-all ns entry ([] ∷ ls) places place h e = ap (λ t. cond (allPlaced t) (Ok t) (Err Missing)) (h .table) ∙ h .left
 placing-all ns entry ((p ∷ ps) ∷ ls) places place h e = absurd (apart (sym e))
-
-fresh : (n : List ℕ) (ns : List Bytes) (j : ℕ) → not (stands n ns) ≡ true → j < length ns → n ≡ getD ns j [] → ⊥
-fresh n ns j t lt e = place-some 1 n ns j (omega arith) lt (sym e) (eqb-true _ 0 (not-false _ (not-true _ t)))
-
--- names that pass the test are all unlike
-pub unlike-from-test : (ns : List Bytes) → allUnlike ns ≡ true → Unlike ns
-unlike-from-test [] t i j li lj e = absurd (omega arith)
-unlike-from-test (n ∷ ns) t zero zero li lj e = refl
-unlike-from-test (n ∷ ns) t zero (suc j) li lj e = absurd (fresh n ns j (and-parts _ _ t .0) (omega arith) e)
-unlike-from-test (n ∷ ns) t (suc i) zero li lj e = absurd (fresh n ns i (and-parts _ _ t .0) (omega arith) (sym e))
-unlike-from-test (n ∷ ns) t (suc i) (suc j) li lj e = ap suc (unlike-from-test ns (and-parts _ _ t .1) i j (omega arith) (omega arith) e)

@@ -64,8 +64,3 @@ placesFrom names seen (h ∷ hs) = cond (stands h names && not (stands h seen)) 
 -- the place of each name in the header, or why it is none
 abbrev pub placesOf : List Bytes → Parts → Result (List ℕ) Refusal
 placesOf names header = placesFrom names [] header
-
--- a test whether names are all unlike
-abbrev pub allUnlike : List Bytes → Bool
-allUnlike [] = true
-allUnlike (n ∷ ns) = not (stands n ns) && allUnlike ns

@@ -1,0 +1,86 @@
+// The test of an annex's numbers.
+ghost use mathlib.Core.Path.{_≡_};
+ghost use Prim.Native.Nat.{_<_};
+ghost use Rattle.annex.specs.Laws.{inRange, firstOut, firstFall};
+ghost use Rattle.annex.specs.Acceptance.{acceptedOf};
+use crate::numbers::Numbers;
+use crate::numbers::number_at;
+use text::Refusal;
+
+// How many numbers an annex has.
+const FIELDS: usize = 21;
+
+// By field the least and the greatest number.
+const RANGES: [(u32, u32); FIELDS] = [
+    (100, 200),
+    (100, 200),
+    (100, 150),
+    (100, 150),
+    (80, 100),
+    (80, 100),
+    (10, 30),
+    (0, 20),
+    (2, 8),
+    (50, 100),
+    (1, 20),
+    (1, 20),
+    (1, 20),
+    (1, 20),
+    (1, 20),
+    (1, 20),
+    (1, 20),
+    (1, 20),
+    (1, 20),
+    (1, 20),
+    (1, 20),
+];
+
+// The place of the first multiple that has one before it.
+const SECOND_MULTIPLE: usize = 11;
+
+// The numbers that these fields list, or why no annex has such numbers.
+pub fn accepted(fields: &[u32]) -> Result<Numbers, Refusal>
+    ensures { λ r. ⌜ r ≡ acceptedOf (now (fields .entry)) ⌝ }
+{
+    if let Some(field) = first_out(fields) {
+        return Err(Refusal::AnnexRange { field });
+    }
+    if let Some(field) = first_fall(fields) {
+        return Err(Refusal::Falling { field });
+    }
+    Ok(Numbers::from_fields(fields))
+}
+
+// The first field out of its range, from 1.
+fn first_out(fields: &[u32]) -> Option<u32>
+    ensures { λ r. ⌜ r ≡ firstOut (now (fields .entry)) ⌝ }
+{
+    for i in 0..FIELDS {
+        if !is_in_range(fields, i) {
+            return Some(i as u32 + 1);
+        }
+    }
+    None
+}
+
+// Whether the number at a place is in its range.
+fn is_in_range(fields: &[u32], place: usize) -> bool
+    requires { ⌜ place < 21 ⌝ }
+    ensures { λ r. ⌜ r ≡ inRange (now (fields .entry)) place ⌝ }
+{
+    let (low, high) = RANGES[place];
+    let n = number_at(fields, place);
+    (low <= n) & (n <= high)
+}
+
+// The first field with a multiple smaller than the one before it, from 1.
+fn first_fall(fields: &[u32]) -> Option<u32>
+    ensures { λ r. ⌜ r ≡ firstFall (now (fields .entry)) ⌝ }
+{
+    for i in SECOND_MULTIPLE..FIELDS {
+        if number_at(fields, i) < number_at(fields, i - 1) {
+            return Some(i as u32 + 1);
+        }
+    }
+    None
+}
