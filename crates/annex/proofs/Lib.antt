@@ -1,3 +1,4 @@
 pub mod Keeping
+pub mod Answering
 pub mod Accepting
 pub mod Granting

@@ -1,10 +1,13 @@
 // The test of an annex's numbers.
 ghost use mathlib.Core.Path.{_≡_};
 ghost use Prim.Native.Nat.{_<_};
+ghost use mathlib.Core.List.{map};
+ghost use lib.ListN.{getD};
+ghost use Rattle.std.specs.Iters.{counting};
+ghost use Rattle.annex.specs.Numbers.{numbersOf};
 ghost use Rattle.annex.specs.Laws.{inRange, firstOut, firstFall};
 ghost use Rattle.annex.specs.Acceptance.{acceptedOf};
 use crate::numbers::Numbers;
-use crate::numbers::number_at;
 use text::Refusal;
 
 // How many numbers an annex has.
@@ -39,7 +42,7 @@ const RANGES: [(u32, u32); FIELDS] = [
 const SECOND_MULTIPLE: usize = 11;
 
 // The numbers that these fields list, or why no annex has such numbers.
-pub fn accepted(fields: &[u32]) -> Result<Numbers, Refusal>
+pub(crate) fn accepted(fields: &[u32]) -> Result<Numbers, Refusal>
     ensures { λ r. ⌜ r ≡ acceptedOf (now (fields .entry)) ⌝ }
 {
     if let Some(field) = first_out(fields) {
@@ -48,7 +51,7 @@ pub fn accepted(fields: &[u32]) -> Result<Numbers, Refusal>
     if let Some(field) = first_fall(fields) {
         return Err(Refusal::Falling { field });
     }
-    Ok(Numbers::from_fields(fields))
+    Ok(numbers_from(fields))
 }
 
 // The first field out of its range, from 1.
@@ -83,4 +86,53 @@ fn first_fall(fields: &[u32]) -> Option<u32>
         }
     }
     None
+}
+
+// The number at a place, from 0; a missing one counts as 0.
+fn number_at(fields: &[u32], place: usize) -> u32
+    ensures { λ r. ⌜ r ≡ getD (now (fields .entry)) place 0 ⌝ }
+{
+    if place < fields.len() {
+        fields[place]
+    } else {
+        0
+    }
+}
+
+// The numbers from their list by field.
+fn numbers_from(fields: &[u32]) -> Numbers
+    ensures { λ r. ⌜ r ≡ numbersOf (now (fields .entry)) ⌝ }
+{
+    Numbers {
+        gc1: number_at(fields, 0),
+        gc2: number_at(fields, 1),
+        gs1: number_at(fields, 2),
+        gs2: number_at(fields, 3),
+        act: number_at(fields, 4),
+        acc: number_at(fields, 5),
+        k1: number_at(fields, 6),
+        k2: number_at(fields, 7),
+        km: number_at(fields, 8),
+        ks: number_at(fields, 9),
+        multiples: multiples_from(fields),
+    }
+}
+
+// The multiples from the list of all numbers by field.
+fn multiples_from(fields: &[u32]) -> [u32; 11]
+    ensures { λ r. ⌜ r ≡ map (λ i. getD (now (fields .entry)) i 0) (counting 10 11) ⌝ }
+{
+    [
+        number_at(fields, 10),
+        number_at(fields, 11),
+        number_at(fields, 12),
+        number_at(fields, 13),
+        number_at(fields, 14),
+        number_at(fields, 15),
+        number_at(fields, 16),
+        number_at(fields, 17),
+        number_at(fields, 18),
+        number_at(fields, 19),
+        number_at(fields, 20),
+    ]
 }

@@ -24,14 +24,20 @@ pub trait Annex {
     fn gc(&self, situation: Situation) -> u32
         ensures { λ r. ⌜ r ≡ gcOf (means (now (self .entry))) situation ⌝ }
     {
-        self.numbers().gc(situation)
+        match situation {
+            Situation::Persistent => self.numbers().gc1,
+            Situation::Accidental => self.numbers().gc2,
+        }
     }
 
     // γs in a situation, in hundredths.
     fn gs(&self, situation: Situation) -> u32
         ensures { λ r. ⌜ r ≡ gsOf (means (now (self .entry))) situation ⌝ }
     {
-        self.numbers().gs(situation)
+        match situation {
+            Situation::Persistent => self.numbers().gs1,
+            Situation::Accidental => self.numbers().gs2,
+        }
     }
 
     // αct, in hundredths.
@@ -80,7 +86,7 @@ pub trait Annex {
     fn multiple(&self, diameter: Diameter) -> u32
         ensures { λ r. ⌜ r ≡ multipleOf (means (now (self .entry))) (mmOf diameter) ⌝ }
     {
-        self.numbers().multiple(diameter)
+        self.numbers().multiples[diameter.place()]
     }
 }
 

@@ -4,4 +4,4 @@ use Rattle.annex.specs.Acceptance.{refusedAt}
 use Rattle.annex.proofs.acceptance.accepted.Needs as need
 
 pub returns : need.returns
-returns c = λ i. refusedAt AnnexRange (c .in-rest .ensures tt i) (refusedAt Falling (c .in-rest-first-fall .ensures tt i) (Ok (c .from-fields .ensures i)))
+returns c = λ i. refusedAt AnnexRange (c .in-rest .ensures tt i) (refusedAt Falling (c .in-rest-first-fall .ensures tt i) (Ok (c .numbers-from .ensures i)))

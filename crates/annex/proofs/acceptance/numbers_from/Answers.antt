@@ -1,4 +1,4 @@
-use Rattle.annex.proofs.numbers.Numbers.from_fields.Needs as need
+use Rattle.annex.proofs.acceptance.numbers_from.Needs as need
 
 pub returns : need.returns
 returns c = λ i. record {
