@@ -106,3 +106,18 @@ read-granted text before after r is h = subst (Promise text after) (sym is) (by 
     by : (o : Result Numbers Refusal) → Leaves o before after → GrantedLaw text o → Promise text after (onOk (λ _. tt) o)
     by (Ok n) l g = (g .0, g .1, l ∙ g .2)
     by (Err e) l g = g
+
+-- a text that was granted, and one that was not, by what the annex then means
+pub granted-means : (text : Bytes) (before after : NationalAnnex) → _≡_ {A = Result (Unit {0}) Refusal} (Ok tt) (onOk (λ _. tt) (annexOf text)) → Leaves (annexOf text) before after → Ok (meansOf after) ≡ annexOf text
+granted-means text before after = by (annexOf text)
+  where
+    by : (o : Result Numbers Refusal) → _≡_ {A = Result (Unit {0}) Refusal} (Ok tt) (onOk (λ _. tt) o) → Leaves o before after → Ok (meansOf after) ≡ o
+    by (Ok n) e l = ap Ok l
+    by (Err d) e l = absurd (err-ok (sym e))
+
+pub refused-for : (text : Bytes) (e : Refusal) → _≡_ {A = Result (Unit {0}) Refusal} (Err e) (onOk (λ _. tt) (annexOf text)) → Err e ≡ annexOf text
+refused-for text e = by (annexOf text)
+  where
+    by : (o : Result Numbers Refusal) → _≡_ {A = Result (Unit {0}) Refusal} (Err e) (onOk (λ _. tt) o) → Err e ≡ o
+    by (Ok n) h = absurd (err-ok h)
+    by (Err d) h = let same : e ≡ d = cc in ap Err same
