@@ -1,4 +1,2 @@
 pub mod Keeping
 pub mod Answering
-pub mod Accepting
-pub mod Granting

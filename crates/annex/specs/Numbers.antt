@@ -4,7 +4,6 @@ use Prim.Native.Nat.{ℕ}
 use lib.Chars.{codes}
 use lib.ListN.{getD}
 use Rattle.std.specs.Iters.{counting}
-use Rattle.text.specs.Texts.{Bytes}
 use Rattle.eurocode.specs.declared.Situation.{Situation}
 use Rattle.eurocode.specs.declared.Situation.the-variants.{Persistent, Accidental}
 use Rattle.eurocode.specs.Tables.{diameters, beside}
@@ -12,7 +11,7 @@ use Rattle.annex.specs.declared.numbers.Numbers.{Numbers}
 
 -- the fields in their order: γc and γs, each in the persistent and in the accidental situation, αct, αcc, k1, k2, km, ks,
 -- and the mandrel multiples by the tabled diameters
-abbrev pub annexNames : List Bytes
+abbrev pub annexNames : List (List ℕ)
 annexNames =
     codes "gc1" ∷ codes "gc2" ∷ codes "gs1" ∷ codes "gs2" ∷ codes "act" ∷ codes "acc" ∷ codes "k1" ∷ codes "k2" ∷ codes "km" ∷ codes "ks" ∷
     codes "m6" ∷ codes "m8" ∷ codes "m10" ∷ codes "m12" ∷ codes "m14" ∷ codes "m16" ∷ codes "m20" ∷ codes "m25" ∷ codes "m28" ∷ codes "m32" ∷ codes "m40" ∷ []

@@ -1,15 +1,10 @@
-// The numbers that Eurocode 2 leaves to a national annex: the recommended ones, and those of an annex that is set.
-mod acceptance;
-pub mod names;
-pub mod national;
+// The numbers that Eurocode 2 leaves to a national annex, the questions that every annex answers, and the recommended
+// annex.
 pub mod numbers;
 pub mod questions;
 
-pub use names::AnnexFields;
-pub use names::AnnexFieldsNamed;
-pub use national::NationalAnnex;
-pub use national::NationalAnnexAnnex;
 pub use numbers::Numbers;
+pub use numbers::RECOMMENDED;
 pub use questions::Annex;
 pub use questions::Recommended;
 pub use questions::RecommendedAnnex;

@@ -18,7 +18,7 @@ pub struct Numbers {
 }
 
 // The recommended numbers.
-pub(crate) const RECOMMENDED: Numbers = Numbers {
+pub const RECOMMENDED: Numbers = Numbers {
     gc1: 150,
     gc2: 120,
     gs1: 115,

@@ -9,8 +9,8 @@ use Rattle.writer.specs.Wrote.{laidOver}
 use Rattle.annex.specs.declared.numbers.Numbers.{Numbers}
 use Rattle.annex.specs.Laws.{Ranged}
 use Rattle.annex.specs.Numbers.{fieldsOf}
-use Rattle.annex.specs.Reading.{annexOf}
-use Rattle.annex.proofs.Granting.{granted-means, refused-for}
+use Rattle.national.specs.Reading.{annexOf}
+use Rattle.national.proofs.Granting.{granted-means, refused-for}
 use Rattle.annex.proofs.Keeping.{ranged-decides}
 use Rattle.annexreport.specs.Report.{reportOf}
 use Rattle.annexreport.proofs.report.Needs as need

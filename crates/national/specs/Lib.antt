@@ -1,0 +1,3 @@
+pub mod Acceptance
+pub mod Annexes
+pub mod Reading
