@@ -1,12 +1,16 @@
-// What was learnt from a text's first line, and a line of its values. The calls are in a module of their own, since a
-// struct's invariant may not cite what is defined of that struct.
+// What was learnt from a text's first line, and a line of its values. The calls are in modules below, since a struct's
+// invariant may not cite what is defined of that struct.
 ghost use mathlib.Core.Path.{_≡_};
 ghost use mathlib.Core.Bool.{true};
 ghost use Prim.Native.Nat.{_≤_};
 ghost use lib.ListN.{take};
 ghost use Rattle.reader.specs.Places.{allWithin};
 
-pub mod calls;
+mod line;
+mod placing;
+mod whole;
+
+pub use whole::check;
 
 // The most fields that names can be given to.
 pub const MOST_FIELDS: usize = 30;

@@ -2,7 +2,7 @@ use mathlib.Core.Path.{ap, _∙_}
 use native.Mathlib.Omega.{arith}
 use lib.ListN.{replicate}
 use Rattle.reader.proofs.Tables.{place-le, placing-none, placing-more, placing-unknown, placing-twice}
-use Rattle.reader.proofs.placing.place_names.Needs as need
+use Rattle.reader.proofs.headers.placing.place_names.Needs as need
 
 pub loop-name-holds : need.loop-name-holds
 loop-name-holds g c = placing-none _ _ _ (c .fill .ensures .after (λ y e. e) ∙ ap (λ n. replicate n 0) (c .pre .table))

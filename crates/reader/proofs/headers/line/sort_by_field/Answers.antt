@@ -6,7 +6,7 @@ use lib.ListN.{getD}
 use Rattle.std.proofs.shelf.Lists.{take-more-set, take-all, map-more}
 use Rattle.reader.specs.Lines.{byField}
 use Rattle.reader.proofs.Turns.{within-at}
-use Rattle.reader.proofs.line.sort_by_field.Needs as need
+use Rattle.reader.proofs.headers.line.sort_by_field.Needs as need
 
 pub sub-fields : need.sub-fields
 sub-fields c = within-at _ (c .args .places .now) (c .loop-field .field) (c .pre .within) (c .loop-field-test .taken) .0

@@ -2,10 +2,14 @@
 ghost use mathlib.Core.Path.{_≡_};
 ghost use lib.ListN.{length};
 ghost use Rattle.std.specs.Orderings.{Decides};
+ghost use Rattle.std.specs.Results.{Cases};
 ghost use Rattle.std.specs.Vec.{made};
 ghost use Rattle.text.specs.Refusals.{onOk};
 ghost use Rattle.text.specs.Tokens.{ahead, thisLine, laterLines};
+ghost use Rattle.reader.specs.Headers.{placesIn};
 ghost use Rattle.reader.specs.Names.{Finds, allPlaced, placesOf};
+use crate::headers::Header;
+use crate::headers::MOST_FIELDS;
 use crate::names::Named;
 use text::Lexer;
 use text::Refusal;
@@ -41,11 +45,7 @@ fn all_placed(places: &[u32]) -> bool
 }
 
 // Passes the first line, and notes for each field the place at which its name stands.
-pub(crate) fn place_names<N: Named>(
-    named: &N,
-    lexer: &mut Lexer,
-    places: &mut [u32],
-) -> Result<(), Refusal>
+fn place_names<N: Named>(named: &N, lexer: &mut Lexer, places: &mut [u32]) -> Result<(), Refusal>
     requires table { ⌜ length (now places) ≡ length (names (now named)) ⌝ }
     ensures places { λ r. ⌜ onOk (λ _. now (places .exit)) r ≡ placesOf (names (now (named .entry))) (thisLine (ahead (now (lexer .entry)))) ⌝ }
     ensures rest { λ r. ⌜ made r (λ _. ahead (now (lexer .exit)) ≡ laterLines (ahead (now (lexer .entry)))) ⌝ }
@@ -66,5 +66,20 @@ pub(crate) fn place_names<N: Named>(
         Ok(())
     } else {
         Err(Refusal::Missing)
+    }
+}
+
+impl Header {
+    // Reads the first line of a text, and passes it; where it is refused, the lexer stays where it was.
+    pub fn read<N: Named>(named: &N, lexer: &mut Lexer) -> Result<Header, Refusal>
+        ensures places { λ r. ⌜ onOk placesIn r ≡ placesOf (names (now (named .entry))) (thisLine (ahead (now (lexer .entry)))) ⌝ }
+        ensures after { λ r. ⌜ Cases r (λ _. ahead (now (lexer .exit)) ≡ laterLines (ahead (now (lexer .entry)))) (λ _. now (lexer .exit) ≡ now (lexer .entry)) ⌝ }
+    {
+        let fields = named.field_count();
+        let mut places = [0; MOST_FIELDS];
+        let mut behind = *lexer;
+        place_names(named, &mut behind, &mut places[0..fields])?;
+        *lexer = behind;
+        Ok(Header { places, fields })
     }
 }

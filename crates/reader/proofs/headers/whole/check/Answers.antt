@@ -8,7 +8,7 @@ use Rattle.reader.specs.Headers.{numbersIn}
 use Rattle.reader.proofs.Opening.{no-text, no-header, behind-header, few-behind}
 use Rattle.reader.proofs.Saying.{counts}
 use Rattle.reader.proofs.Turns.{checking-more, checking-stops, checking-all, told-stops, told-goes}
-use Rattle.reader.proofs.headers.calls.check.Needs as need
+use Rattle.reader.proofs.headers.whole.check.Needs as need
 
 pub returns-in-Break-lexer : need.returns-in-Break-lexer
 returns-in-Break-lexer g c =

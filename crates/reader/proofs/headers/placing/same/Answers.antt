@@ -1,5 +1,5 @@
 use Rattle.std.proofs.shelf.Equals.{matches-decides}
-use Rattle.reader.proofs.placing.same.Needs as need
+use Rattle.reader.proofs.headers.placing.same.Needs as need
 
 pub returns : need.returns
 returns c = matches-decides _ _ _ (c .eq .ensures)

@@ -8,7 +8,7 @@ use Rattle.std.specs.declared.result.Result.the-variants.{Err}
 use Rattle.text.specs.Refusals.{onErr, atPlace}
 use Rattle.text.specs.Values.{valueOf}
 use Rattle.reader.proofs.Turns.{reading-more, reading-stops, reading-all, value-stops}
-use Rattle.reader.proofs.line.read_values.Needs as need
+use Rattle.reader.proofs.headers.line.read_values.Needs as need
 
 pub loop-part-again : need.loop-part-again
 loop-part-again c =
