@@ -1,14 +1,18 @@
 -- An annex text is granted exactly where it says one line of numbers that keep both laws. Assumes nothing.
 use mathlib.Core.Path.{_≡_, refl, sym, ap, subst, _∙_}
 use mathlib.Core.List.{List, [], _∷_}
+use mathlib.Core.Logic.{inl, inr}
 use Prim.Native.Nat.{ℕ, _+_}
 use native.Mathlib.Omega.{arith}
 use lib.ListN.{length}
+use Rattle.std.specs.Options as options
 use Rattle.std.specs.Results.{Cases}
+use Rattle.std.specs.declared.option.Option.{Option}
+use Rattle.std.specs.declared.option.Option.the-variants.{Some, None}
 use Rattle.std.specs.declared.result.Result.{Result}
 use Rattle.std.specs.declared.result.Result.the-variants.{Ok, Err}
 use Rattle.text.specs.declared.refusals.Refusal.{Refusal}
-use Rattle.text.specs.declared.refusals.Refusal.the-variants.{AnnexLines}
+use Rattle.text.specs.declared.refusals.Refusal.the-variants.{AnnexLines, AnnexRange, Falling}
 use Rattle.text.specs.Refusals.{atLine, onErr, onOk}
 use Rattle.text.specs.Texts.{Bytes, Parts, partsByLine}
 use Rattle.text.specs.Tokens.{laterLines}
@@ -21,9 +25,10 @@ use Rattle.annex.specs.declared.numbers.Numbers.{Numbers}
 use Rattle.national.specs.declared.annexes.NationalAnnex.{NationalAnnex}
 use Rattle.national.specs.Annexes.{meansOf}
 use Rattle.annex.specs.Numbers.{annexNames, numbersOf}
-use Rattle.annex.specs.Laws.{Ranged, Rising}
-use Rattle.national.specs.Acceptance.{acceptedOf, AcceptedLaw}
-use Rattle.national.specs.Reading.{andThen, onlyLine, writtenOf, annexOf, Grants, GrantedLaw, Leaves}
+use Rattle.annex.specs.Laws.{Ranged, Rising, inRange, noFall, Passes, FailsFirst, firstOut, firstFall}
+use Rattle.annex.proofs.Keeping.{first-law}
+use Rattle.national.specs.Acceptance.{refusedAt, acceptedOf, AcceptedLaw}
+use Rattle.national.specs.Reading.{andThen, onlyLine, writtenOf, annexOf, Grants, GrantedLaw, BreaksFirst, Leaves}
 use Rattle.national.proofs.Accepting.{accepted-law, accepted-keeps}
 
 named : WellNamed annexNames
@@ -121,3 +126,20 @@ refused-for text e = by (annexOf text)
     by : (o : Result Numbers Refusal) → _≡_ {A = Result (Unit {0}) Refusal} (Err e) (onOk (λ _. tt) o) → Err e ≡ o
     by (Ok n) h = absurd (err-ok h)
     by (Err d) h = let same : e ≡ d = cc in ap Err same
+
+-- which number is told of those that are said
+accepted-first : (ns : List ℕ) (e : Refusal) → acceptedOf ns ≡ Err e → BreaksFirst ns e
+unfolding firstOut firstFall
+accepted-first ns e = by (firstOut ns) (firstFall ns) (first-law (inRange ns) 0 21) (first-law (noFall ns) 11 10)
+  where
+    by : (out fall : Option ℕ) → options.Cases out (Passes (inRange ns) 0 21) (FailsFirst (inRange ns) 0 21) → options.Cases fall (Passes (noFall ns) 11 10) (FailsFirst (noFall ns) 11 10) → refusedAt AnnexRange out (refusedAt Falling fall (Ok (numbersOf ns))) ≡ Err e → BreaksFirst ns e
+    by (Some f) fall o h is = inl (f, cc, o)
+    by None (Some f) o h is = inr (f, cc, o, h)
+    by None None o h is = absurd (err-ok (sym is))
+
+pub read-first : (text : Bytes) (r : Result (Unit {0}) Refusal) → r ≡ onOk (λ _. tt) (annexOf text) → Cases r (λ _. Unit {0}) (λ e. (ns : List ℕ) → Says annexNames text (ns ∷ []) → BreaksFirst ns e)
+read-first text r is = subst (λ x. Cases x (λ _. Unit {0}) (λ e. (ns : List ℕ) → Says annexNames text (ns ∷ []) → BreaksFirst ns e)) (sym is) (by (annexOf text) refl)
+  where
+    by : (o : Result Numbers Refusal) → annexOf text ≡ o → Cases (onOk {Y = Unit {0}} (λ _. tt) o) (λ _. Unit {0}) (λ e. (ns : List ℕ) → Says annexNames text (ns ∷ []) → BreaksFirst ns e)
+    by (Ok n) e = tt
+    by (Err d) e = λ ns s. accepted-first ns d (ap (λ w. andThen w acceptedOf) (sym (says-written text ns s)) ∙ e)

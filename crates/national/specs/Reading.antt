@@ -1,12 +1,13 @@
 -- What an annex text says: the numbers that it grants, or what is refused first. Assumes nothing.
 use mathlib.Core.Path.{_≡_}
 use mathlib.Core.List.{List, [], _∷_}
+use mathlib.Core.Logic.{_⊎_}
 use Prim.Native.Nat.{ℕ}
 use Rattle.std.specs.Results.{Cases}
 use Rattle.std.specs.declared.result.Result.{Result}
 use Rattle.std.specs.declared.result.Result.the-variants.{Ok, Err}
 use Rattle.text.specs.declared.refusals.Refusal.{Refusal}
-use Rattle.text.specs.declared.refusals.Refusal.the-variants.{AnnexLines}
+use Rattle.text.specs.declared.refusals.Refusal.the-variants.{AnnexLines, AnnexRange, Falling}
 use Rattle.text.specs.Refusals.{atLine, onErr}
 use Rattle.text.specs.Texts.{Bytes, Parts, partsByLine}
 use Rattle.text.specs.Tokens.{laterLines}
@@ -15,7 +16,7 @@ use Rattle.reader.specs.Says.{Says}
 use Rattle.annex.specs.declared.numbers.Numbers.{Numbers}
 use Rattle.national.specs.declared.annexes.NationalAnnex.{NationalAnnex}
 use Rattle.annex.specs.Numbers.{annexNames, numbersOf}
-use Rattle.annex.specs.Laws.{Ranged, Rising}
+use Rattle.annex.specs.Laws.{Ranged, Rising, inRange, noFall, Passes, FailsFirst}
 use Rattle.national.specs.Acceptance.{acceptedOf}
 use Rattle.national.specs.Annexes.{meansOf}
 
@@ -47,6 +48,11 @@ pub record Grants (text : Bytes) (ns : List ℕ) : Type 0 where
 -- exactly the texts that grant numbers are granted, and those are the numbers
 abbrev pub GrantedLaw : Bytes → Result Numbers Refusal → Type 0
 GrantedLaw text r = Cases r (λ n. (ns : List ℕ) × Grants text ns × (n ≡ numbersOf ns)) (λ _. (ns : List ℕ) → Grants text ns → ⊥)
+
+-- why numbers that are said are refused: the first of them out of its range, or, where all are in range, the first
+-- multiple smaller than the one before it
+abbrev pub BreaksFirst : List ℕ → Refusal → Type 0
+BreaksFirst ns e = ((f : ℕ) × (e ≡ AnnexRange f) × FailsFirst (inRange ns) 0 21 f) ⊎ ((f : ℕ) × (e ≡ Falling f) × Passes (inRange ns) 0 21 × FailsFirst (noFall ns) 11 10 f)
 
 -- what reading leaves: a granted text's numbers are the annex's; a refused one leaves the annex as it was
 abbrev pub Leaves : Result Numbers Refusal → NationalAnnex → NationalAnnex → Type 0

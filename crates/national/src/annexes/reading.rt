@@ -1,13 +1,14 @@
 // How an annex is read from a text.
 ghost use mathlib.Core.Path.{_≡_};
 ghost use Prim.Native.Nat.{ℕ};
-ghost use mathlib.Core.List.{List};
+ghost use mathlib.Core.List.{List, [], _∷_};
 ghost use Rattle.std.specs.Results.{Cases};
 ghost use Rattle.text.specs.Refusals.{onOk};
 ghost use Rattle.reader.specs.Headers.{numbersIn};
-ghost use Rattle.annex.specs.Numbers.{numbersOf};
+ghost use Rattle.reader.specs.Says.{Says};
+ghost use Rattle.annex.specs.Numbers.{annexNames, numbersOf};
 ghost use Rattle.national.specs.Annexes.{meansOf};
-ghost use Rattle.national.specs.Reading.{writtenOf, annexOf, Grants, Leaves};
+ghost use Rattle.national.specs.Reading.{writtenOf, annexOf, Grants, BreaksFirst, Leaves};
 use crate::annexes::NationalAnnex;
 use crate::names::AnnexFields;
 use crate::names::AnnexFieldsNamed;
@@ -38,6 +39,7 @@ impl NationalAnnex {
     pub fn read(&mut self, text: &[u8]) -> Result<(), Refusal>
         ensures answers { λ r. ⌜ r ≡ onOk (λ _. tt) (annexOf (now (text .entry))) ⌝ }
         ensures leaves { λ _. ⌜ Leaves (annexOf (now (text .entry))) (now (self .entry)) (now (self .exit)) ⌝ }
+        ensures first { λ r. ⌜ Cases r (λ _. Unit {0}) (λ e. (ns : List ℕ) → Says annexNames (now (text .entry)) (ns ∷ []) → BreaksFirst ns e) ⌝ }
         ensures granted { λ r. ⌜ Cases r (λ _. (ns : List ℕ) × Grants (now (text .entry)) ns × (meansOf (now (self .exit)) ≡ numbersOf ns)) (λ _. (ns : List ℕ) → Grants (now (text .entry)) ns → ⊥) ⌝ }
     {
         let fields = written(text)?;
