@@ -11,8 +11,8 @@ use Rattle.std.specs.Written.{decimal}
 use Rattle.std.proofs.shelf.Lists.{length-append}
 use Rattle.std.proofs.shelf.Tests.{and-parts, leb-true}
 use Rattle.std.proofs.shelf.Ways.{decides-below-and}
-use Rattle.text.specs.declared.refusals.Refusal.{Refusal}
-use Rattle.text.specs.Refusals.{numbersOf}
+use Rattle.refusal.specs.declared.Refusal.{Refusal}
+use Rattle.refusal.specs.Refusals.{numbersOf}
 use Rattle.text.specs.Texts.{Bytes, Parts, partText, lineText, textOf}
 use Rattle.writer.proofs.Spelling.{decimal-short}
 use Rattle.annex.specs.declared.numbers.Numbers.{Numbers}

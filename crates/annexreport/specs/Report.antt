@@ -7,8 +7,8 @@ use Rattle.std.specs.Iters.{counting}
 use Rattle.std.specs.Written.{decimal}
 use Rattle.std.specs.declared.result.Result.{Result}
 use Rattle.std.specs.declared.result.Result.the-variants.{Ok, Err}
-use Rattle.text.specs.declared.refusals.Refusal.{Refusal}
-use Rattle.text.specs.Refusals.{numbersOf}
+use Rattle.refusal.specs.declared.Refusal.{Refusal}
+use Rattle.refusal.specs.Refusals.{numbersOf}
 use Rattle.text.specs.Texts.{Bytes, Parts, textOf}
 use Rattle.annex.specs.declared.numbers.Numbers.{Numbers}
 use Rattle.annex.specs.Numbers.{annexNames, fieldsOf}

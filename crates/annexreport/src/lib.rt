@@ -16,7 +16,7 @@ use national::AnnexFieldsNamed;
 use national::NationalAnnex;
 use national::NationalAnnexAnnex;
 use reader::Named;
-use text::Refusal;
+use refusal::Refusal;
 use writer::Writer;
 
 // A buffer of so many bytes holds every report of an annex.

@@ -12,7 +12,7 @@ use Rattle.std.specs.declared.option.Option.the-variants.{Some, None}
 use Rattle.std.specs.declared.result.Result.the-variants.{Ok, Err}
 use Rattle.std.proofs.shelf.Counted.{fill-by-all}
 use Rattle.std.proofs.shelf.Tests.{and-parts, and-from, eq-eqb, both-ways}
-use Rattle.text.specs.declared.refusals.Refusal.the-variants.{AnnexRange, Falling}
+use Rattle.refusal.specs.declared.Refusal.the-variants.{AnnexRange, Falling}
 use Rattle.annex.specs.declared.numbers.Numbers.{Numbers}
 use Rattle.annex.specs.Numbers.{fieldsOf, numbersOf}
 use Rattle.annex.specs.Laws.{Ranged, Rising, firstOut, firstFall, isRanged, isRising}

@@ -11,9 +11,9 @@ use Rattle.std.specs.declared.option.Option.{Option}
 use Rattle.std.specs.declared.option.Option.the-variants.{Some, None}
 use Rattle.std.specs.declared.result.Result.{Result}
 use Rattle.std.specs.declared.result.Result.the-variants.{Ok, Err}
-use Rattle.text.specs.declared.refusals.Refusal.{Refusal}
-use Rattle.text.specs.declared.refusals.Refusal.the-variants.{AnnexLines, AnnexRange, Falling}
-use Rattle.text.specs.Refusals.{atLine, onErr, onOk}
+use Rattle.refusal.specs.declared.Refusal.{Refusal}
+use Rattle.refusal.specs.declared.Refusal.the-variants.{AnnexLines, AnnexRange, Falling}
+use Rattle.refusal.specs.Refusals.{atLine, onErr, onOk}
 use Rattle.text.specs.Texts.{Bytes, Parts, partsByLine}
 use Rattle.text.specs.Tokens.{laterLines}
 use Rattle.reader.specs.Lines.{headerOf, lineOf, lineThen, linesFrom, linesUnder, readOf}

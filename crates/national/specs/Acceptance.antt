@@ -8,8 +8,8 @@ use Rattle.std.specs.declared.option.Option.{Option}
 use Rattle.std.specs.declared.option.Option.the-variants.{Some, None}
 use Rattle.std.specs.declared.result.Result.{Result}
 use Rattle.std.specs.declared.result.Result.the-variants.{Ok, Err}
-use Rattle.text.specs.declared.refusals.Refusal.{Refusal}
-use Rattle.text.specs.declared.refusals.Refusal.the-variants.{AnnexRange, Falling}
+use Rattle.refusal.specs.declared.Refusal.{Refusal}
+use Rattle.refusal.specs.declared.Refusal.the-variants.{AnnexRange, Falling}
 use Rattle.annex.specs.declared.numbers.Numbers.{Numbers}
 use Rattle.annex.specs.Numbers.{numbersOf}
 use Rattle.annex.specs.Laws.{Ranged, Rising, firstOut, firstFall}

@@ -6,9 +6,9 @@ use Prim.Native.Nat.{ℕ}
 use Rattle.std.specs.Results.{Cases}
 use Rattle.std.specs.declared.result.Result.{Result}
 use Rattle.std.specs.declared.result.Result.the-variants.{Ok, Err}
-use Rattle.text.specs.declared.refusals.Refusal.{Refusal}
-use Rattle.text.specs.declared.refusals.Refusal.the-variants.{AnnexLines, AnnexRange, Falling}
-use Rattle.text.specs.Refusals.{atLine, onErr}
+use Rattle.refusal.specs.declared.Refusal.{Refusal}
+use Rattle.refusal.specs.declared.Refusal.the-variants.{AnnexLines, AnnexRange, Falling}
+use Rattle.refusal.specs.Refusals.{atLine, onErr}
 use Rattle.text.specs.Texts.{Bytes, Parts, partsByLine}
 use Rattle.text.specs.Tokens.{laterLines}
 use Rattle.reader.specs.Lines.{headerOf, lineOf}

@@ -8,7 +8,7 @@ ghost use Rattle.annex.specs.Numbers.{numbersOf};
 ghost use Rattle.annex.specs.Laws.{inRange, firstOut, firstFall};
 ghost use Rattle.national.specs.Acceptance.{acceptedOf};
 use annex::Numbers;
-use text::Refusal;
+use refusal::Refusal;
 
 // How many numbers an annex has.
 const FIELDS: usize = 21;

@@ -15,8 +15,8 @@ use Rattle.std.proofs.shelf.Tests.{cases-bool, cases-lt, cond-true, cond-false,
 use Rattle.std.specs.Results.{Cases}
 use Rattle.std.specs.declared.result.Result.{Result}
 use Rattle.std.specs.declared.result.Result.the-variants.{Ok, Err}
-use Rattle.text.specs.declared.refusals.Refusal.{Refusal}
-use Rattle.text.specs.declared.refusals.Refusal.the-variants.{Name, Missing}
+use Rattle.refusal.specs.declared.Refusal.{Refusal}
+use Rattle.refusal.specs.declared.Refusal.the-variants.{Name, Missing}
 use Rattle.text.specs.Texts.{Bytes, Parts}
 use Rattle.reader.specs.Names.{Unlike, placeFrom, placeIn, stands, allPlaced, placesFrom, placesOf, EachOnce, StandsAt}
 use Rattle.reader.specs.Places.{allWithin}

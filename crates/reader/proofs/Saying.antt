@@ -16,9 +16,9 @@ use Rattle.std.specs.declared.option.Option.the-variants.{Some, None}
 use Rattle.std.specs.declared.result.Result.{Result}
 use Rattle.std.specs.declared.result.Result.the-variants.{Ok, Err}
 use Rattle.std.specs.shelf.Lists.{All}
-use Rattle.text.specs.declared.refusals.Refusal.{Refusal}
-use Rattle.text.specs.declared.refusals.Refusal.the-variants.{Text, Count}
-use Rattle.text.specs.Refusals.{atLine, onErr, onOk}
+use Rattle.refusal.specs.declared.Refusal.{Refusal}
+use Rattle.refusal.specs.declared.Refusal.the-variants.{Text, Count}
+use Rattle.refusal.specs.Refusals.{atLine, onErr, onOk}
 use Rattle.text.specs.Texts.{Bytes, Parts, isText, partsByLine, textOf, Plain, PlainLine}
 use Rattle.text.specs.Tokens.{thisLine, laterLines}
 use Rattle.text.specs.Values.{Writes, valueOf}
@@ -26,7 +26,7 @@ use Rattle.text.proofs.Joining.{text-joined, text-apart, text-of-lines}
 use Rattle.text.proofs.Written.{value-writes, writes-value, writes-plain}
 use Rattle.reader.specs.Names.{WellNamed, Unlike, EachOnce, placesOf}
 use Rattle.reader.specs.Lines.{valueThen, valuesFrom, valuesOf, byField, lineOf, lineThen, linesFrom, headerOf, linesUnder, readOf}
-use Rattle.reader.specs.Says.{Under, AllUnder, Says, Counts}
+use Rattle.reader.specs.Says.{Under, AllUnder, Says, Counts, Checks}
 use Rattle.reader.proofs.Turns.{told-goes}
 use Rattle.reader.proofs.Bearing.{Placed, Told, header-law}
 
@@ -189,9 +189,16 @@ says-read names text lines good s =
     (λ i. linesUnder (head i) (laterLines (all i))) ∙ under-lines names (s .header) (w .0) (w .2) 2 (s .rest) lines (s .values)
 
 -- so a text is counted exactly where it says something
-pub counts : (names : List Bytes) (text : Bytes) (r : Result ℕ Refusal) → WellNamed names → r ≡ onOk length (readOf names text) → Counts names text r
+counts : (names : List Bytes) (text : Bytes) (r : Result ℕ Refusal) → WellNamed names → r ≡ onOk length (readOf names text) → Counts names text r
 counts names text r good e = subst (Counts names text) (sym e) (by (readOf names text) refl)
   where
     by : (o : Result (List (List ℕ)) Refusal) → readOf names text ≡ o → Counts names text (onOk length o)
     by (Ok lines) is = (lines, read-says names text lines (good .unlike) is, refl)
     by (Err d) is = λ lines s. err-ok (sym is ∙ says-read names text lines good s)
+
+-- and so is it checked: by what is read, or by the refusal of a step
+pub checked : (names : List Bytes) (text : Bytes) (r : Result ℕ Refusal) → WellNamed names → r ≡ onOk length (readOf names text) → Checks names text r
+checked names text r good e = record { count = e; says = counts names text r good e }
+
+pub checked-refused : (names : List Bytes) (text : Bytes) (r : Result ℕ Refusal) (d e : Refusal) → WellNamed names → r ≡ Err d → d ≡ e → Err e ≡ onOk length (readOf names text) → Checks names text r
+checked-refused names text r d e good is same h = checked names text r good (is ∙ ap Err same ∙ h)

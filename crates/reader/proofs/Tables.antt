@@ -16,8 +16,8 @@ use Rattle.std.specs.declared.option.Option.the-variants.{Some, None}
 use Rattle.std.specs.declared.result.Result.{Result}
 use Rattle.std.specs.declared.result.Result.the-variants.{Ok, Err}
 use Rattle.text.specs.Tokens.{thisLine, laterLines, nextPart, afterNext}
-use Rattle.text.specs.declared.refusals.Refusal.{Refusal}
-use Rattle.text.specs.declared.refusals.Refusal.the-variants.{Name, Missing}
+use Rattle.refusal.specs.declared.Refusal.{Refusal}
+use Rattle.refusal.specs.declared.Refusal.the-variants.{Name, Missing}
 use Rattle.text.specs.Texts.{Bytes, Parts}
 use Rattle.reader.specs.Names.{Unlike, placeFrom, placeIn, stands, allPlaced, placesFrom, placesOf}
 

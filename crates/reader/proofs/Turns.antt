@@ -14,9 +14,9 @@ use Rattle.std.specs.declared.option.Option.{Option}
 use Rattle.std.specs.declared.option.Option.the-variants.{Some, None}
 use Rattle.std.specs.declared.result.Result.{Result}
 use Rattle.std.specs.declared.result.Result.the-variants.{Ok, Err}
-use Rattle.text.specs.declared.refusals.Refusal.{Refusal}
-use Rattle.text.specs.declared.refusals.Refusal.the-variants.{Form}
-use Rattle.text.specs.Refusals.{atLine, atPlace, onOk, onErr}
+use Rattle.refusal.specs.declared.Refusal.{Refusal}
+use Rattle.refusal.specs.declared.Refusal.the-variants.{Form}
+use Rattle.refusal.specs.Refusals.{atLine, atPlace, onOk, onErr}
 use Rattle.text.specs.Texts.{Bytes, Parts}
 use Rattle.text.specs.Tokens.{thisLine, laterLines, nextPart, afterNext}
 use Rattle.text.specs.Values.{valueOf}

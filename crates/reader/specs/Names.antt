@@ -11,8 +11,8 @@ use Rattle.std.specs.declared.result.Result.{Result}
 use Rattle.std.specs.declared.result.Result.the-variants.{Ok, Err}
 use Rattle.std.specs.shelf.Lists.{All}
 use Rattle.std.specs.shelf.Text.{sameBytes}
-use Rattle.text.specs.declared.refusals.Refusal.{Refusal}
-use Rattle.text.specs.declared.refusals.Refusal.the-variants.{Name, Missing}
+use Rattle.refusal.specs.declared.Refusal.{Refusal}
+use Rattle.refusal.specs.declared.Refusal.the-variants.{Name, Missing}
 use Rattle.text.specs.Texts.{Bytes, Parts, Plain}
 
 -- no two of them are the same

@@ -5,9 +5,11 @@ use Prim.Native.Nat.{ℕ, _<_, _≤_}
 use lib.ListN.{length, getD}
 use Rattle.std.specs.Results.{Cases}
 use Rattle.std.specs.declared.result.Result.{Result}
-use Rattle.text.specs.declared.refusals.Refusal.{Refusal}
+use Rattle.refusal.specs.declared.Refusal.{Refusal}
+use Rattle.refusal.specs.Refusals.{onOk}
 use Rattle.text.specs.Texts.{Bytes, Parts, textOf}
 use Rattle.text.specs.Values.{Writes}
+use Rattle.reader.specs.Lines.{readOf}
 use Rattle.reader.specs.Names.{EachOnce}
 
 -- a line of values under the header: as many parts, and each field holds the number that is written under its name
@@ -36,3 +38,8 @@ pub record Says (names : List Bytes) (text : Bytes) (lines : List (List ℕ)) : 
 -- a text is read exactly where it says something: as many lines as it then says, or else it says nothing
 abbrev pub Counts : List Bytes → Bytes → Result ℕ Refusal → Type 0
 Counts names text r = Cases r (λ n. (lines : List (List ℕ)) × Says names text lines × (length lines ≡ n)) (λ _. (lines : List (List ℕ)) → Says names text lines → ⊥)
+
+-- what `check` answers: how many lines are read, or what is refused first; and that is as the text says
+pub record Checks (names : List Bytes) (text : Bytes) (r : Result ℕ Refusal) : Type 0 where
+  pub count : r ≡ onOk length (readOf names text)
+  pub says : Counts names text r

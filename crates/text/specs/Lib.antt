@@ -1,4 +1,3 @@
-pub mod Refusals
 pub mod Values
 pub mod Texts
 pub mod Tokens

@@ -8,13 +8,13 @@ ghost use lib.ListN.{length};
 ghost use Rattle.std.specs.Options.{mapped};
 ghost use Rattle.std.specs.Vec.{made};
 ghost use Rattle.std.specs.declared.result.Result.the-variants.{Ok, Err};
-ghost use Rattle.text.specs.declared.refusals.Refusal.the-variants.{Text};
-ghost use Rattle.text.specs.Refusals.{onOk};
+ghost use Rattle.refusal.specs.declared.Refusal.the-variants.{Text};
+ghost use Rattle.refusal.specs.Refusals.{onOk};
 ghost use Rattle.std.specs.declared.option.Option.the-variants.{Some};
 ghost use Rattle.std.specs.shelf.Lists.{All};
 ghost use Rattle.text.specs.Texts.{Parts, isText, partsOf, partsByLine, lineFeeds, textOf, PlainLine, Cuts};
 ghost use Rattle.text.specs.Tokens.{ahead, lexeme, Gives, partsBehind, inLine, thisLine, nextPart, afterNext};
-use crate::refusals::Refusal;
+use refusal::Refusal;
 
 // The most bytes that a text may have.
 const MOST_BYTES: usize = 65535;

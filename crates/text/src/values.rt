@@ -4,9 +4,9 @@ ghost use Prim.Native.Nat.{ℕ, _<_, _≤_};
 ghost use lib.ListN.{length};
 ghost use Rattle.std.specs.Options.{okOr};
 ghost use Rattle.std.specs.Results.{Cases};
-ghost use Rattle.text.specs.declared.refusals.Refusal.the-variants.{Form};
+ghost use Rattle.refusal.specs.declared.Refusal.the-variants.{Form};
 ghost use Rattle.text.specs.Values.{Writes, digitsFrom, valueOf};
-use crate::refusals::Refusal;
+use refusal::Refusal;
 
 // A value has at most seven digits: its first, and six behind it.
 const MOST_BEHIND_FIRST: usize = 6;

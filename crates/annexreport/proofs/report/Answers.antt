@@ -4,7 +4,7 @@ use mathlib.Core.List.{List}
 use lib.ListN.{length}
 use Rattle.std.specs.declared.result.Result.{Result}
 use Rattle.std.specs.declared.result.Result.the-variants.{Ok, Err}
-use Rattle.text.specs.declared.refusals.Refusal.{Refusal}
+use Rattle.refusal.specs.declared.Refusal.{Refusal}
 use Rattle.writer.specs.Wrote.{laidOver}
 use Rattle.annex.specs.declared.numbers.Numbers.{Numbers}
 use Rattle.annex.specs.Laws.{Ranged}

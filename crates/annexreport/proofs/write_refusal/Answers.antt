@@ -4,7 +4,7 @@ use Prim.Native.Nat.{_^_, _<_}
 use native.Mathlib.Omega.{arith}
 use lib.Chars.{codes}
 use Rattle.std.specs.Written.{decimal}
-use Rattle.text.specs.Refusals.{numbersOf}
+use Rattle.refusal.specs.Refusals.{numbersOf}
 use Rattle.text.specs.Texts.{textOf}
 use Rattle.writer.proofs.Writing.{wrote-as}
 use Rattle.annexreport.specs.Report.{refusalText}

@@ -3,7 +3,7 @@ ghost use mathlib.Core.Path.{_≡_};
 ghost use Prim.Native.Nat.{ℕ};
 ghost use mathlib.Core.List.{List, [], _∷_};
 ghost use Rattle.std.specs.Results.{Cases};
-ghost use Rattle.text.specs.Refusals.{onOk};
+ghost use Rattle.refusal.specs.Refusals.{onOk};
 ghost use Rattle.reader.specs.Headers.{numbersIn};
 ghost use Rattle.reader.specs.Says.{Says};
 ghost use Rattle.annex.specs.Numbers.{annexNames, numbersOf};
@@ -14,10 +14,10 @@ use crate::names::AnnexFields;
 use crate::names::AnnexFieldsNamed;
 use reader::Fields;
 use reader::Header;
+use refusal::Located;
+use refusal::Refusal;
+use refusal::ResultLocated;
 use text::Lexer;
-use text::Located;
-use text::Refusal;
-use text::ResultLocated;
 
 // The one line of values stands below the names.
 const VALUE_LINE: u32 = 2;

@@ -1,7 +1,7 @@
 // How an annex begins, and how its numbers are set.
 ghost use mathlib.Core.Path.{_≡_};
 ghost use Rattle.std.specs.Results.{Cases};
-ghost use Rattle.text.specs.Refusals.{onOk};
+ghost use Rattle.refusal.specs.Refusals.{onOk};
 ghost use Rattle.annex.specs.Numbers.{numbersOf, recommended};
 ghost use Rattle.national.specs.Acceptance.{acceptedOf};
 ghost use Rattle.national.specs.Annexes.{meansOf};
@@ -10,7 +10,7 @@ use crate::annexes::NationalAnnex;
 use annex::Annex;
 use annex::Numbers;
 use annex::RECOMMENDED;
-use text::Refusal;
+use refusal::Refusal;
 
 impl NationalAnnex {
     // An annex of the recommended numbers.

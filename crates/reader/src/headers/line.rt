@@ -5,7 +5,7 @@ ghost use Prim.Native.Nat.{_≤_};
 ghost use lib.ListN.{length};
 ghost use Rattle.std.specs.Results.{Cases};
 ghost use Rattle.std.specs.Vec.{made};
-ghost use Rattle.text.specs.Refusals.{onOk};
+ghost use Rattle.refusal.specs.Refusals.{onOk};
 ghost use Rattle.text.specs.Tokens.{ahead, thisLine, laterLines};
 ghost use Rattle.reader.specs.Headers.{placesIn, numbersIn};
 ghost use Rattle.reader.specs.Lines.{valuesOf, byField, lineOf};
@@ -13,10 +13,10 @@ ghost use Rattle.reader.specs.Places.{allWithin};
 use crate::headers::Fields;
 use crate::headers::Header;
 use crate::headers::MOST_FIELDS;
+use refusal::Located;
+use refusal::Refusal;
+use refusal::ResultLocated;
 use text::Lexer;
-use text::Located;
-use text::Refusal;
-use text::ResultLocated;
 use text::value;
 
 // Reads as many values as `values` has room for.

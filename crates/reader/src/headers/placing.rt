@@ -4,15 +4,15 @@ ghost use lib.ListN.{length};
 ghost use Rattle.std.specs.Orderings.{Decides};
 ghost use Rattle.std.specs.Results.{Cases};
 ghost use Rattle.std.specs.Vec.{made};
-ghost use Rattle.text.specs.Refusals.{onOk};
+ghost use Rattle.refusal.specs.Refusals.{onOk};
 ghost use Rattle.text.specs.Tokens.{ahead, thisLine, laterLines};
 ghost use Rattle.reader.specs.Headers.{placesIn};
 ghost use Rattle.reader.specs.Names.{Finds, allPlaced, placesOf};
 use crate::headers::Header;
 use crate::headers::MOST_FIELDS;
 use crate::names::Named;
+use refusal::Refusal;
 use text::Lexer;
-use text::Refusal;
 
 fn same(a: &[u8], b: &[u8]) -> bool
     ensures { λ r. ⌜ Decides r (now (a .entry) ≡ now (b .entry)) ⌝ }

@@ -1,5 +1,5 @@
 use Rattle.std.specs.declared.result.Result.the-variants.{Ok}
-use Rattle.text.specs.declared.refusals.Refusal.the-variants.{AnnexRange, Falling}
+use Rattle.refusal.specs.declared.Refusal.the-variants.{AnnexRange, Falling}
 use Rattle.national.specs.Acceptance.{refusedAt}
 use Rattle.national.proofs.acceptance.accepted.Needs as need
 

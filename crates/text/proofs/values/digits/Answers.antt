@@ -2,7 +2,7 @@ use mathlib.Core.Path.{ap, sym, _∙_}
 use native.Mathlib.Omega.{arith}
 use Rattle.std.proofs.shelf.Lists.{at-drop-all}
 use Rattle.std.specs.Options.{okOr}
-use Rattle.text.specs.declared.refusals.Refusal.the-variants.{Form}
+use Rattle.refusal.specs.declared.Refusal.the-variants.{Form}
 use Rattle.text.specs.Values.{digitsFrom}
 use Rattle.text.proofs.Written.{fits, bound-more, digit-more, digit-stops}
 use Rattle.text.proofs.values.digits.Needs as need

@@ -7,8 +7,8 @@ use Rattle.std.specs.Options.{okOr}
 use Rattle.std.specs.Results.{Cases}
 use Rattle.std.specs.declared.result.Result.{Result}
 use Rattle.std.specs.declared.result.Result.the-variants.{Err}
-use Rattle.text.specs.declared.refusals.Refusal.{Refusal}
-use Rattle.text.specs.declared.refusals.Refusal.the-variants.{Form}
+use Rattle.refusal.specs.declared.Refusal.{Refusal}
+use Rattle.refusal.specs.declared.Refusal.the-variants.{Form}
 use Rattle.text.specs.Values.{Writes, valueOf}
 use Rattle.text.proofs.Written.{first-digit, value-law}
 use Rattle.text.proofs.values.value.Needs as need

@@ -1,7 +1,7 @@
 use mathlib.Core.Path.{_≡_, refl, ap, sym, subst, _∙_}
 use Rattle.std.proofs.shelf.Results.{err-from-errBy}
 use Rattle.std.specs.declared.result.Result.the-variants.{Ok, Err}
-use Rattle.text.specs.Refusals.{onOk}
+use Rattle.refusal.specs.Refusals.{onOk}
 use Rattle.national.specs.Acceptance.{acceptedOf}
 use Rattle.national.specs.Reading.{andThen, annexOf, Leaves}
 use Rattle.national.proofs.Granting.{set-leaves, read-granted, read-first}

@@ -1,5 +1,5 @@
 use mathlib.Core.Path.{ap}
-use Rattle.text.specs.Refusals.{onOk}
+use Rattle.refusal.specs.Refusals.{onOk}
 use Rattle.national.proofs.Accepting.{accepted-keeps}
 use Rattle.national.proofs.annexes.NationalAnnex.set.Needs as need
 

@@ -5,7 +5,7 @@ use Rattle.std.proofs.shelf.Results.{err-from-errBy}
 use Rattle.std.proofs.shelf.Tests.{cond-true}
 use Rattle.std.specs.declared.option.Option.the-variants.{Some}
 use Rattle.std.specs.declared.result.Result.the-variants.{Err}
-use Rattle.text.specs.Refusals.{onErr, atPlace}
+use Rattle.refusal.specs.Refusals.{onErr, atPlace}
 use Rattle.text.specs.Values.{valueOf}
 use Rattle.reader.proofs.Turns.{reading-more, reading-stops, reading-all, value-stops}
 use Rattle.reader.proofs.headers.line.read_values.Needs as need

@@ -1,7 +1,7 @@
 // Why a call is refused. Each case has one number that never changes, and two more beside it that say where.
 ghost use Prim.Native.Nat.{ℕ};
 ghost use mathlib.Core.Path.{_≡_};
-ghost use Rattle.text.specs.Refusals.{numbersOf, atLine, atPlace, onErr};
+ghost use Rattle.refusal.specs.Refusals.{numbersOf, atLine, atPlace, onErr};
 
 // A text line counts from 1, the names being line 1, and is 0 outside a text; places and fields count from 1.
 #[derive(Clone, Copy)]

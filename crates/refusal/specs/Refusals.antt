@@ -2,8 +2,8 @@
 use Prim.Native.Nat.{ℕ}
 use Rattle.std.specs.declared.result.Result.{Result}
 use Rattle.std.specs.declared.result.Result.the-variants.{Ok, Err}
-use Rattle.text.specs.declared.refusals.Refusal.{Refusal}
-use Rattle.text.specs.declared.refusals.Refusal.the-variants.{Rows, Place, Situation, Range, Contradiction, Overstressed, Unfit, Full, Text, Name, Missing, Form, Count, AnnexRange, Falling, AnnexLines, Buffer}
+use Rattle.refusal.specs.declared.Refusal.{Refusal}
+use Rattle.refusal.specs.declared.Refusal.the-variants.{Rows, Place, Situation, Range, Contradiction, Overstressed, Unfit, Full, Text, Name, Missing, Form, Count, AnnexRange, Falling, AnnexLines, Buffer}
 
 -- the refusal's number; then, mostly, the text line and the place or field in it
 abbrev pub numbersOf : Refusal → ℕ × ℕ × ℕ
