@@ -22,13 +22,6 @@ impl Strength {
         Some(Strength { row })
     }
 
-    // Whether so many MPa are a tabled strength.
-    pub fn is_tabled(fck: u32) -> bool
-        ensures { λ r. ⌜ r ≡ tabled fck strengths ⌝ }
-    {
-        place_in(fck, &STRENGTHS).is_some()
-    }
-
     // In MPa.
     pub fn fck(self) -> u32
         ensures value { λ r. ⌜ r ≡ fckOf self ⌝ }

@@ -196,9 +196,9 @@ counts names text r good e = subst (Counts names text) (sym e) (by (readOf names
     by (Ok lines) is = (lines, read-says names text lines (good .unlike) is, refl)
     by (Err d) is = λ lines s. err-ok (sym is ∙ says-read names text lines good s)
 
--- and so is it checked: by what is read, or by the refusal of a step
-pub checked : (names : List Bytes) (text : Bytes) (r : Result ℕ Refusal) → WellNamed names → r ≡ onOk length (readOf names text) → Checks names text r
-checked names text r good e = record { count = e; says = counts names text r good e }
+-- and so is it checked: by what is read, or by the refusal of a step; x is what the lines behind the header give
+pub checked-all : (names : List Bytes) (text : Bytes) (r m : ℕ) (x : Result ℕ Refusal) → WellNamed names → r ≡ m → Ok m ≡ x → x ≡ onOk length (readOf names text) → Checks names text (Ok r)
+checked-all names text r m x good same h all = let e = ap Ok same ∙ h ∙ all in record { count = e; says = counts names text (Ok r) good e }
 
-pub checked-refused : (names : List Bytes) (text : Bytes) (r : Result ℕ Refusal) (d e : Refusal) → WellNamed names → r ≡ Err d → d ≡ e → Err e ≡ onOk length (readOf names text) → Checks names text r
-checked-refused names text r d e good is same h = checked names text r good (is ∙ ap Err same ∙ h)
+pub checked-refused : (names : List Bytes) (text : Bytes) (r : Result ℕ Refusal) (d e : Refusal) (x : Result ℕ Refusal) → WellNamed names → r ≡ Err d → d ≡ e → Err e ≡ x → x ≡ onOk length (readOf names text) → Checks names text r
+checked-refused names text r d e x good is same h all = let q = is ∙ ap Err same ∙ h ∙ all in record { count = q; says = counts names text r good q }
