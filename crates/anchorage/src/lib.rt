@@ -1,6 +1,8 @@
 // The length that an anchorage or a lap of a ribbed bar needs, and the rules of its detailing (EN 1992-1-1, 8.2 to 8.4
 // and 8.7): the numbers that they are over. What they say stands in specs/, and the laws that follow in proofs/.
 
+#![tactic(auto)]
+
 // How a bar ends.
 #[derive(Clone, Copy)]
 pub enum Shape {

@@ -1,4 +1,7 @@
 // Checks a national annex: reads its text from standard input, and prints the numbers in force or why it is refused.
+
+#![tactic(auto)]
+
 use annexreport::{MOST_REPORT, report};
 use std::io;
 use std::io::{Read, Write};

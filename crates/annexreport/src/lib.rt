@@ -1,4 +1,7 @@
 // Prints the numbers that an annex means, or why they were refused, to the start of a caller's buffer.
+
+#![tactic(auto)]
+
 ghost use Rattle.std.specs.Prelude.{◌≡◌, ◌<◌, ◌≤◌, min, [], ◌∷◌, length, decimal, slice_index};
 ghost use Rattle.text.specs.Texts.{line_text};
 ghost use Rattle.writer.specs.Wrote.{Wrote, laid_over};

@@ -3,6 +3,9 @@
 // A line is a title, a bar, the number of a situation, a bar, and the 23 numbers of a bar line with semicolons between
 // them. It prints the title, a bar, and figure and mark, or the number and the field of the refusal. The annex is the
 // recommended one.
+
+#![tactic(auto)]
+
 use annex::{Annex, Recommended};
 use bars::BarBook;
 use book::{Book, WrittenBook, judge};

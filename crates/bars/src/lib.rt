@@ -1,4 +1,7 @@
 // The bar book: anchorages and laps of single ribbed bars.
+
+#![tactic(auto)]
+
 mod details;
 pub mod factors;
 pub mod lines;

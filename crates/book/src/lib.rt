@@ -1,4 +1,7 @@
 // What a book is: rules for one kind of line, with two laws, and how a line is judged by it.
+
+#![tactic(auto)]
+
 pub mod books;
 pub mod faults;
 pub mod fields;

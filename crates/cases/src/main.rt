@@ -5,6 +5,9 @@
 // to 65534 bytes. One annex reads all the texts, so that the numbers in force at the end of each line tell what was
 // granted before. It prints the title; the refusal's three numbers or `granted`; how many lines of values there are, or
 // again a refusal; and γc in the persistent situation and the multiple of 40 mm bars that are now in force.
+
+#![tactic(auto)]
+
 use annex::Annex;
 use eurocode::{Diameter, Situation};
 use national::{AnnexFields, NationalAnnex};

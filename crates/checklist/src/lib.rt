@@ -1,4 +1,7 @@
 // Tests in a fixed order, and the first that fails.
+
+#![tactic(auto)]
+
 ghost use Rattle.std.specs.Prelude.{◌≡◌, length, MatchOption};
 ghost use Rattle.checklist.specs.Firsts.{Passes, FailsFirst, first_failed, test_at};
 

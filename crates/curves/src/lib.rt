@@ -1,4 +1,7 @@
 // Points of the handbook's tables and curves: lengths of straight bars in tension under the recommended annex.
+
+#![tactic(auto)]
+
 pub mod entries;
 pub mod points;
 

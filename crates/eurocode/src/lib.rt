@@ -1,4 +1,7 @@
 // The tabled bars and concretes of Eurocode 2, and its design situations.
+
+#![tactic(auto)]
+
 ghost use Rattle.std.specs.Prelude.{◌<◌};
 
 mod bars;

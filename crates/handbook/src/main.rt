@@ -4,6 +4,9 @@
 // over the stress as a table, and `picture DIA FCK BOND` for the same curve as an SVG. BOND is 1 for good bond and 2 for
 // other. Without an argument it prints the tables. Every length is a point of `curves::length`, which is proved never to
 // fall between two of them.
+
+#![tactic(auto)]
+
 use anyhow::anyhow;
 use curves::{Bond, Entry};
 use eurocode::{Diameter, Strength};

@@ -1,5 +1,8 @@
 // Rounding upward. The fractions of the formulas, their order and the calculus of rounding errors are definitions and
 // lemmas alone: the code works on numerators over common denominators.
+
+#![tactic(auto)]
+
 ghost use Rattle.std.specs.Prelude.{◌≡◌, ◌<◌};
 ghost use Rattle.measure.specs.Rounding.{Least, ceiling};
 

@@ -1,4 +1,7 @@
 // Why a call is refused. Each case has one number that never changes, and two more beside it that say where.
+
+#![tactic(auto)]
+
 ghost use Rattle.std.specs.Prelude.{◌≡◌, ℕ};
 ghost use Rattle.refusal.specs.Refusals.{numbers_of, at_line, at_place, on_err};
 

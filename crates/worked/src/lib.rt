@@ -1,4 +1,7 @@
 // Lines worked by hand: the definitions of the books answer to each what the table says.
+
+#![tactic(auto)]
+
 ghost use Rattle.std.specs.Prelude.{◌≡◌, length};
 ghost use Rattle.worked.specs.Worked.{worked_lines, AllHold};
 

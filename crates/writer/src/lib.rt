@@ -1,4 +1,7 @@
 // Writes bytes, numbers and lines to the start of a caller's buffer. What no longer fits is left out.
+
+#![tactic(auto)]
+
 ghost use Rattle.std.specs.Prelude.{◌≡◌, [], ◌∷◌, length, decimal};
 ghost use Rattle.text.specs.Texts.{ending, part_text};
 ghost use Rattle.writer.specs.Wrote.{Wrote, done, ahead};

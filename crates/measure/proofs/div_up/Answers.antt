@@ -10,5 +10,5 @@ returns-then-d-eq0 c =
 pub returns-else-d-eq0 : goal.returns-else-d-eq0
 returns-else-d-eq0 c =
     let p : 0 < c.args.d = omega arith in
-    let e = c.div-ceil.ensures ∙ ceiling_is c.args.n c.args.d p in
+    let e = c.div_ceil.ensures ∙ ceiling_is c.args.n c.args.d p in
     record { value = e; least = λ _. subst (Least c.args.n c.args.d) (sym e) (ceiling_law c.args.n c.args.d p) }

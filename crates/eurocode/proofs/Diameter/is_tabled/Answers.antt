@@ -5,4 +5,4 @@ use Rattle.eurocode.proofs.Diameter.is_tabled.Goals as goal
 
 pub returns : goal.returns
 unfolding diameters
-returns c = c.is-some.ensures ∙ ap is_some c.place-in.ensures ∙ is_found c.args.mm diameters
+returns c = c.is_some.ensures ∙ ap is_some c.place_in.ensures ∙ is_found c.args.mm diameters

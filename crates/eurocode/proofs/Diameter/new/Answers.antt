@@ -5,14 +5,14 @@ use Rattle.eurocode.specs.Sizes.{mm_of}
 use Rattle.eurocode.proofs.Tabled.{found, missed}
 use Rattle.eurocode.proofs.Diameter.new.Goals as goal
 
-pub invariant-of-result : goal.invariant-of-result
+pub invariant_of-result : goal.invariant_of-result
 unfolding diameters
-invariant-of-result c = ((found c.args.mm c.in-ok-row.row diameters c.in-ok-row.ensures).1, tt)
+invariant_of-result c = record { listed = (found c.args.mm c.in_ok-row.row diameters c.in_ok-row.ensures).1 }
 
-pub returns-in-err-row : goal.returns-in-err-row
+pub returns-in_err-row : goal.returns-in_err-row
 unfolding diameters
-returns-in-err-row c = ap (option_map mm_of) c.from-residual.ensures ∙ ap (λ b. cond b (Some c.args.mm) None) (sym (missed c.args.mm diameters c.in-err-row.ensures))
+returns-in_err-row c = ap (option_map mm_of) c.from_residual.ensures ∙ ap (λ b. cond b (Some c.args.mm) None) (sym (missed c.args.mm diameters c.in_err-row.ensures))
 
 pub returns : goal.returns
 unfolding diameters mm_of
-returns c = let at = found c.args.mm c.in-ok-row.row diameters c.in-ok-row.ensures in λ k. cond (sym at.0 k) (Some (at.2 k)) None
+returns c = let at = found c.args.mm c.in_ok-row.row diameters c.in_ok-row.ensures in λ k. cond (sym at.0 k) (Some (at.2 k)) None

@@ -5,8 +5,8 @@ use Rattle.text.proofs.Cutting.{feed_more, feed_other, feeds_le}
 use Rattle.text.proofs.tokens.line_feeds.Goals as goal
 use Rattle.text.proofs.tokens.line_feeds.Goals.{then-b-eq10, else-b-eq10}
 
-pub overflow-add-count : goal.overflow-add-count
-overflow-add-count c = omega (arith, feeds_le c.args.bytes.now, c.loop-b.invariant)
+pub overflow_add-count : goal.overflow_add-count
+overflow_add-count c = omega (arith, feeds_le c.args.bytes.now, c.loop-b.invariant)
 
 pub loop-b-preserved : goal.loop-b-preserved
 loop-b-preserved c =

@@ -6,20 +6,20 @@ use Rattle.text.specs.Values.{digits_from}
 use Rattle.text.proofs.Written.{fits, bound_more, digit_more, digit_stops}
 use Rattle.text.proofs.values.digits.Goals as goal
 
-pub returns-then-not-is-ascii-digit : goal.returns-then-not-is-ascii-digit
-returns-then-not-is-ascii-digit c =
-    ap (λ o. ok_or o (Form 0 0)) (digit_stops _ _ _ c.loop-b-test.true c.if-not-is-ascii-digit.ensures.value ∙ c.loop-b.invariant.0)
+pub returns-then-not-is_ascii_digit : goal.returns-then-not-is_ascii_digit
+returns-then-not-is_ascii_digit c =
+    ap (λ o. ok_or o (Form 0 0)) (digit_stops _ _ _ c.loop-b-test.true c.if-not-is_ascii_digit.ensures.value ∙ c.loop-b.invariant.0)
 
-pub overflow-mul-number : goal.overflow-mul-number
-overflow-mul-number c = omega (arith, fits _ _ c.loop-b.invariant.1 (omega arith))
+pub overflow_mul-number : goal.overflow_mul-number
+overflow_mul-number c = omega (arith, fits _ _ c.loop-b.invariant.1 (omega arith))
 
-pub overflow-add-number : goal.overflow-add-number
-overflow-add-number c = omega (arith, fits _ _ c.loop-b.invariant.1 (omega arith), c.if-not-is-ascii-digit.ensures.cases)
+pub overflow_add-number : goal.overflow_add-number
+overflow_add-number c = omega (arith, fits _ _ c.loop-b.invariant.1 (omega arith), c.if-not-is_ascii_digit.ensures.cases)
 
 pub loop-b-preserved : goal.loop-b-preserved
 loop-b-preserved c = (
-  digit_more _ _ _ c.loop-b-test.true c.if-not-is-ascii-digit.ensures.value ∙ c.loop-b.invariant.0,
-  bound_more _ _ _ c.loop-b.invariant.1 (omega (arith, c.if-not-is-ascii-digit.ensures.cases)),
+  digit_more _ _ _ c.loop-b-test.true c.if-not-is_ascii_digit.ensures.value ∙ c.loop-b.invariant.0,
+  bound_more _ _ _ c.loop-b.invariant.1 (omega (arith, c.if-not-is_ascii_digit.ensures.cases)),
 )
 
 pub returns : goal.returns

@@ -6,7 +6,7 @@ use Rattle.text.proofs.tokens.Lexer.open.Goals as goal
 
 pub returns : goal.returns
 returns c =
-    let whole = sym c.if-not-is-text.ensures in
+    let whole = sym c.if-not-is_text.ensures in
     record {
       ahead = sym (cond-true _ _ _ whole);
       names = refl;
