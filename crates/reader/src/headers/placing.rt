@@ -18,7 +18,7 @@ fn same(a: &[u8], b: &[u8]) -> bool
 
 // The field of this name.
 fn find<N: Named>(named: &N, name: &[u8]) -> Option<usize>
-    ensures { Finds name.now (names named.now) result }
+    ensures { Finds name.now (N.names named.now) result }
 {
     for field in 0..named.field_count() {
         if same(named.field_name(field), name) {
@@ -42,8 +42,8 @@ fn all_placed(places: &[u32]) -> bool
 
 // Passes the first line, and notes for each field the place at which its name stands.
 fn place_names<N: Named>(named: &N, lexer: &mut Lexer, places: &mut [u32]) -> Result<(), Refusal>
-    requires table { length places.old ≡ length (names named.now) }
-    ensures places { on_ok (λ _. places.new) result ≡ places_of (names named.now) (this_line (ahead lexer.old)) }
+    requires table { length places.old ≡ length (N.names named.now) }
+    ensures places { on_ok (λ _. places.new) result ≡ places_of (N.names named.now) (this_line (ahead lexer.old)) }
     ensures rest { OnOk result (ahead lexer.new ≡ later_lines (ahead lexer.old)) }
 {
     places.fill(0);
@@ -68,7 +68,7 @@ fn place_names<N: Named>(named: &N, lexer: &mut Lexer, places: &mut [u32]) -> Re
 impl Header {
     // Reads the first line of a text, and passes it; where it is refused, the lexer stays where it was.
     pub fn read<N: Named>(named: &N, lexer: &mut Lexer) -> Result<Header, Refusal>
-        ensures places { on_ok places_in result ≡ places_of (names named.now) (this_line (ahead lexer.old)) }
+        ensures places { on_ok places_in result ≡ places_of (N.names named.now) (this_line (ahead lexer.old)) }
         ensures after { MatchResult result (λ _. ahead lexer.new ≡ later_lines (ahead lexer.old)) (λ _. lexer.new ≡ lexer.old) }
     {
         let fields = named.field_count();

@@ -8,16 +8,16 @@ use Rattle.reader.proofs.headers.line.read_values.Goals as goal
 
 pub loop-part-preserved : goal.loop-part-preserved
 loop-part-preserved c =
-    let is : value_of c.in-Some.part.now ≡ Some c.in-ok-values.field-0 = search rules in
-    reading_more _ _ _ _ _ _ _ c.loop-part.invariant c.in-Some.ensures.part c.next-part.ensures.after is
+    let is : value_of c.in-Some.part.now ≡ Some c.in_ok-values.field-0 = search rules in
+    reading_more _ _ _ _ _ _ _ c.loop-part.invariant c.in-Some.ensures.part c.next_part.ensures.after is
 
 pub returns : goal.returns
 returns c =
-    let all = reading_all _ _ _ _ c.loop-part.invariant c.in-default.ensures.part in
-    record { values = all.0 ∙ sym (cond-true _ _ _ (sym c.if-not-has-parts.ensures)); rest = c.next-part.ensures.after ∙ all.1 }
+    let all = reading_all _ _ _ _ c.loop-part.invariant c.in_default.ensures.part in
+    record { values = all.0 ∙ sym (cond-true _ _ _ (sym c.if-not-has_parts.ensures)); rest = c.next_part.ensures.after ∙ all.1 }
 
-pub returns-in-err-values : goal.returns-in-err-values
-returns-in-err-values c =
-    let p = err_from_is_err_and c.from-residual.result c.from-residual.ensures.1 in
-    let stops = value_stops (value_of c.in-Some.part.now) (c.loop-part.place + 1) c.in-err-values.field-0.0 (ap (on_err (at_place (c.loop-part.place + 1))) (sym c.value.ensures.value) ∙ sym c.at-place.ensures ∙ c.in-err-values.was) in
-    rw (p.1, p.2) (record { values = ap Err stops.1 ∙ reading_stops _ _ _ _ _ c.loop-part.invariant c.in-Some.ensures.part stops.0 ∙ sym (cond-true _ _ _ (sym c.if-not-has-parts.ensures)); rest = tt })
+pub returns-in_err-values : goal.returns-in_err-values
+returns-in_err-values c =
+    let p = err_from_is_err_and c.from_residual.result c.from_residual.ensures.1 in
+    let stops = value_stops (value_of c.in-Some.part.now) (c.loop-part.place + 1) c.in_err-values.field-0.0 (ap (on_err (at_place (c.loop-part.place + 1))) (sym c.value.ensures.value) ∙ sym c.at_place.ensures ∙ c.in_err-values.was) in
+    rw (p.1, p.2) (record { values = ap Err stops.1 ∙ reading_stops _ _ _ _ _ c.loop-part.invariant c.in-Some.ensures.part stops.0 ∙ sym (cond-true _ _ _ (sym c.if-not-has_parts.ensures)); rest = tt })

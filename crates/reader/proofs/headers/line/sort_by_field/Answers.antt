@@ -4,8 +4,8 @@ use Rattle.reader.specs.Lines.{by_field}
 use Rattle.reader.proofs.Turns.{within_at}
 use Rattle.reader.proofs.headers.line.sort_by_field.Goals as goal
 
-pub overflow-sub-fields : goal.overflow-sub-fields
-overflow-sub-fields c = (within_at _ c.args.places.now c.loop-field.field c.requires.within c.loop-field-test.true).0
+pub overflow_sub-fields : goal.overflow_sub-fields
+overflow_sub-fields c = (within_at _ c.args.places.now c.loop-field.field c.requires.within c.loop-field-test.true).0
 
 pub bounds-values-place : goal.bounds-values-place
 bounds-values-place c = omega (arith, within_at _ c.args.places.now c.loop-field.field c.requires.within c.loop-field-test.true)
