@@ -3,3 +3,4 @@ pub mod Meaning
 pub mod Fields
 pub mod Written
 pub mod Plain
+pub mod Plainness

@@ -1,9 +1,7 @@
 // A book without rules: its mark is always 0.
 ghost use Rattle.std.specs.Prelude.{◌≡◌};
 ghost use Rattle.book.specs.Plain.{plain};
-ghost use native.Mathlib.Omega.{arith};
-ghost use Rattle.measure.specs.Fractions.{◌plus◌};
-ghost use Rattle.std.proofs.Common.{rules};
+ghost use Rattle.book.specs.Plainness.{plain_near, plain_order};
 
 use crate::books::{Book, judge};
 use crate::faults::LineFault;
@@ -16,9 +14,9 @@ impl Book for Lengths {
 
     ghost meaning = { λ _. plain };
 
-    ghost near = { unfold ◌plus◌ in λ b s l e. omega arith };
+    ghost near = { λ _. plain_near };
 
-    ghost order = { Prim.search rules };
+    ghost order = { λ _. plain_order };
 
     fn rules(&self) -> u8 {
         0

@@ -16,7 +16,7 @@ pub trait WrittenBook: Book + Named {
 
     // The line of these numbers, if they are as many as the names.
     fn line(&self, fields: &[u32]) -> Option<Self::Line>
-        ensures { option_map (numbers self.now) result ≡ (if nat_eq (length fields.now) (length (names self.now)) then Some fields.now else None) };
+        ensures { option_map (numbers self.now) result ≡ (if nat_eq (length fields.now) (length (Self.names self.now)) then Some fields.now else None) };
 
-    ghost listed: { (b : Self) → Lists (length (names b)) (numbers b) };
+    ghost listed: { (b : Self) → Lists (length (Self.names b)) (numbers b) };
 }

@@ -8,8 +8,8 @@ pub loop-i-init : goal.loop-i-init
 unfolding first_fall
 loop-i-init c = refl
 
-pub returns-then-number-at : goal.returns-then-number-at
-returns-then-number-at c =
+pub returns-then-number_at : goal.returns-then-number_at
+returns-then-number_at c =
     let falls : no_fall c.args.fields.now c.loop-i.i ≡ false = lt-leb _ _ (omega arith) in
     sym (first_stops (no_fall c.args.fields.now) c.loop-i.i 21 c.loop-i-test.true falls) ∙ c.loop-i.invariant
 

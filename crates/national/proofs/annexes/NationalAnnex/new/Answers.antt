@@ -1,5 +1,5 @@
 use Rattle.annex.specs.Keeping.{recommended_ranged, recommended_rising}
 use Rattle.national.proofs.annexes.NationalAnnex.new.Goals as goal
 
-pub invariant-of-result : goal.invariant-of-result
-invariant-of-result c = (recommended_ranged, (recommended_rising, tt))
+pub invariant_of-result : goal.invariant_of-result
+invariant_of-result c = record { ranged = recommended_ranged; rising = recommended_rising }
