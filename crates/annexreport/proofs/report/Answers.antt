@@ -21,11 +21,11 @@ returns-in-Ok c =
     let annex = c.read.new.self in
     let e : Ok c.numbers.result.now ≡ annex_of c.args.text.now = ap Ok c.numbers.ensures ∙ granted_means c.args.text.now c.new-annex.result annex c.in-Ok.ensures.answers c.in-Ok.ensures.leaves in
     let kept = subst (λ n. Ranged (fields_of n)) (sym c.numbers.ensures) ((ranged_decides (fields_of annex.numbers)).0 annex.ranged) in
-    let w = subst (λ o. Laid o c.args.buffer.now c.write-report.new.buffer c.write-report.result) e (record { laid = c.write-report.ensures.laid; counted = c.write-report.ensures.counted; short = c.write-report.ensures.short kept }) in
+    let w = subst (λ o. Laid o c.args.buffer.now c.write_report.new.buffer c.write_report.result) e (record { laid = c.write_report.ensures.laid; counted = c.write_report.ensures.counted; short = c.write_report.ensures.short kept }) in
     record { laid = w.laid; counted = w.counted; short = w.short }
 
 pub returns-in-Err : goal.returns-in-Err
 returns-in-Err c =
     let e = refused_for c.args.text.now c.in-Err.refusal c.in-Err.ensures.answers in
-    let w = subst (λ o. Laid o c.args.buffer.now c.write-report-in-Err.new.buffer c.write-report-in-Err.result) e (record { laid = c.write-report-in-Err.ensures.laid; counted = c.write-report-in-Err.ensures.counted; short = c.write-report-in-Err.ensures.short tt }) in
+    let w = subst (λ o. Laid o c.args.buffer.now c.write_report-in-Err.new.buffer c.write_report-in-Err.result) e (record { laid = c.write_report-in-Err.ensures.laid; counted = c.write_report-in-Err.ensures.counted; short = c.write_report-in-Err.ensures.short tt }) in
     record { laid = w.laid; counted = w.counted; short = w.short }

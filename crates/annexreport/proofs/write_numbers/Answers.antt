@@ -12,7 +12,7 @@ loop-field-init c = going_none _ _
 pub loop-field-preserved : goal.loop-field-preserved
 loop-field-preserved c =
     going_more c.loop-field.invariant (fields_more c.args.numbers.now c.loop-field.field 21 c.loop-field-test.true)
-    (wrote_as (λ i. line_text (c.field-name.ensures i ∷ decimal (c.number-of.ensures i) ∷ [])) c.write-line.ensures)
+    (wrote_as (λ i. line_text (c.field_name.ensures i ∷ decimal (c.number_of.ensures i) ∷ [])) c.write_line.ensures)
 
 pub returns : goal.returns
 returns c = going_all c.loop-field.invariant (fields_all c.args.numbers.now c.loop-field.field 21 c.loop-field-test.false)

@@ -7,4 +7,4 @@ use Rattle.annexreport.proofs.write_outcome.Goals as goal
 pub returns-in-Ok : goal.returns-in-Ok
 returns-in-Ok c =
     let is = sym c.in-Ok.is in
-    record { wrote = wrote_as (ap report_of is) c.write-numbers.ensures; short = subst (λ o. Reportable o → length (report_of o) ≤ 400) is (numbers_short c.in-Ok.numbers) }
+    record { wrote = wrote_as (ap report_of is) c.write_numbers.ensures; short = subst (λ o. Reportable o → length (report_of o) ≤ 400) is (numbers_short c.in-Ok.numbers) }

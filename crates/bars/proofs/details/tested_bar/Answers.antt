@@ -8,6 +8,6 @@ returns g c =
     let n = g.A.Annex.means c.args.annex.now in
     let s = c.args.situation in
     let l = c.args.line.now in
-    let passed = not_refused (test_of n s l) (sym (c.if-is-err.ensures.value ∙ ap is_err c.test-line.ensures)) in
-    let is = bar_is n (g.met.A.Annex.ranged c.args.annex.now) s l c.bar-of.result passed c.bar-of.ensures in
+    let passed = not_refused (test_of n s l) (sym (c.if-is_err.ensures.value ∙ ap is_err c.test_line.ensures)) in
+    let is = bar_is n (g.met.A.Annex.ranged c.args.annex.now) s l c.bar_of.result passed c.bar_of.ensures in
     record { value = is.0; ranged = is.1 }

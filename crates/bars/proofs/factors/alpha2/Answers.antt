@@ -4,5 +4,5 @@ use Rattle.bars.proofs.factors.alpha2.Goals as goal
 
 pub returns : goal.returns
 returns c =
-    rw (c.surplus-beyond.ensures, c.twice-cover.ensures, c.ample-cover.ensures) at c.clamped.ensures
+    rw (c.surplus-beyond.ensures, c.twice_cover.ensures, c.ample_cover.ensures) at c.clamped.ensures
     ∙ α2_code c.args.shape c.args.b.now c.requires

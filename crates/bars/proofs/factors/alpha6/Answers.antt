@@ -12,15 +12,15 @@ unfolding ths
 returns-in-26-to-33 c =
     let h : 25 < c.args.b.now.share = omega arith in
     let k : c.args.b.now.share ≤ 33 = omega arith in
-    c.div-up.ensures.value ∙ ap (ths 1000000) (sym (α6_second c.args.b.now h k))
+    c.div_up.ensures.value ∙ ap (ths 1000000) (sym (α6_second c.args.b.now h k))
 
 pub returns-in-34-to-50 : goal.returns-in-34-to-50
 unfolding ths
 returns-in-34-to-50 c =
     let h : 33 < c.args.b.now.share = omega arith in
     let k : c.args.b.now.share ≤ 50 = omega arith in
-    c.div-up-in-34-to-50.ensures.value ∙ ap (ths 1000000) (sym (α6_third c.args.b.now h k))
+    c.div_up-in-34-to-50.ensures.value ∙ ap (ths 1000000) (sym (α6_third c.args.b.now h k))
 
-pub returns-in-default : goal.returns-in-default
+pub returns-in_default : goal.returns-in_default
 unfolding ths ceiling
-returns-in-default c = let h : 50 < c.args.b.now.share = omega arith in rw (α6_high c.args.b.now h) refl
+returns-in_default c = let h : 50 < c.args.b.now.share = omega arith in rw (α6_high c.args.b.now h) refl

@@ -8,8 +8,8 @@ surplus-beyond-requires c = record {
   right = omega (arith, mul-le-mul c.requires.few c.requires.ranged.area_high);
 }
 
-pub overflow-mul-b-2 : goal.overflow-mul-b-2
-overflow-mul-b-2 c =
+pub overflow_mul-b-2 : goal.overflow_mul-b-2
+overflow_mul-b-2 c =
     let b = c.args.b.now in
     let most : c.surplus-beyond.result ≤ 300000000000 = omega (arith, c.surplus-beyond.ensures, mul-le-mul c.requires.ranged.trans_high c.requires.fine) in
     record { fits = omega (arith, mul-le-mul c.requires.ranged.eff_high most) }

@@ -4,4 +4,4 @@ use Rattle.bars.proofs.trial.admitted.Goals as goal
 
 pub returns : goal.returns
 unfolding in_range tabled
-returns c = rw (c.is-tabled.ensures, c.is-tabled-2.ensures, c.is-confinement.ensures, c.is-tabled-3.ensures)
+returns c = rw (c.is_tabled.ensures, c.is_tabled-2.ensures, c.is_confinement.ensures, c.is_tabled-3.ensures)

@@ -2,30 +2,30 @@ use Rattle.std.proofs.Common.{◌∙◌, mul-le-mul, arith}
 use Rattle.anchorage.proofs.Computing.{α1_top, α4_top, lb_top, α235_top, share_top, lbd_code}
 use Rattle.bars.proofs.factors.lengths.anchorage_length.Goals as goal
 
-pub overflow-mul-full : goal.overflow-mul-full
-overflow-mul-full c =
+pub overflow_mul-full : goal.overflow_mul-full
+overflow_mul-full c =
     let k = c.args.d in
     let b = c.args.b.now in
     rw (c.alpha1.ensures, c.alpha235.ensures) (record { fits = omega (arith, mul-le-mul (α1_top k b c.requires) (α235_top k b c.requires)) })
 
-pub overflow-mul-full-2 : goal.overflow-mul-full-2
-overflow-mul-full-2 c =
+pub overflow_mul-full-2 : goal.overflow_mul-full-2
+overflow_mul-full-2 c =
     let k = c.args.d in
     let b = c.args.b.now in
     rw (c.alpha1.ensures, c.alpha235.ensures, c.alpha4.ensures)
     (record { fits = omega (arith, mul-le-mul (mul-le-mul (α1_top k b c.requires) (α235_top k b c.requires)) (α4_top k b c.requires)) })
 
-pub overflow-mul-full-3 : goal.overflow-mul-full-3
-overflow-mul-full-3 c =
+pub overflow_mul-full-3 : goal.overflow_mul-full-3
+overflow_mul-full-3 c =
     let k = c.args.d in
     let b = c.args.b.now in
-    rw (c.alpha1.ensures, c.alpha235.ensures, c.alpha4.ensures, c.basic-length-basic.ensures)
+    rw (c.alpha1.ensures, c.alpha235.ensures, c.alpha4.ensures, c.basic_length-basic.ensures)
     (record { fits = omega (arith, mul-le-mul (mul-le-mul (mul-le-mul (α1_top k b c.requires) (α235_top k b c.requires)) (α4_top k b c.requires)) (lb_top k b c.requires)) })
 
-pub overflow-mul-least-part : goal.overflow-mul-least-part
-overflow-mul-least-part c = rw (c.least-part.ensures, c.basic-length-basic.ensures) (record { fits = omega (arith, mul-le-mul (share_top c.args.d.tension) (lb_top c.args.d c.args.b.now c.requires)) })
+pub overflow_mul-least_part : goal.overflow_mul-least_part
+overflow_mul-least_part c = rw (c.least_part.ensures, c.basic_length-basic.ensures) (record { fits = omega (arith, mul-le-mul (share_top c.args.d.tension) (lb_top c.args.d c.args.b.now c.requires)) })
 
 pub returns : goal.returns
 returns c =
-    rw (c.max-2.ensures, c.max.ensures, c.div-up.ensures.value, c.div-up-2.ensures.value, c.alpha1.ensures, c.alpha235.ensures, c.alpha4.ensures, c.least-part.ensures, c.basic-length-basic.ensures) at c.max-3.ensures
+    rw (c.max-2.ensures, c.max.ensures, c.div_up.ensures.value, c.div_up-2.ensures.value, c.alpha1.ensures, c.alpha235.ensures, c.alpha4.ensures, c.least_part.ensures, c.basic_length-basic.ensures) at c.max-3.ensures
     ∙ lbd_code c.args.d c.args.b.now

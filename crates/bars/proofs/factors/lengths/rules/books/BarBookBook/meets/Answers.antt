@@ -16,9 +16,9 @@ returns-then-rule-eq0 g c =
 pub returns-in-Some : goal.returns-in-Some
 returns-in-Some g c =
     let n = g.A.Annex.means c.args.self.now.annex in
-    let tests = rules c.detail-of.result c.in-Some.bar in
+    let tests = rules c.detail_of.result c.in-Some.bar in
     let r = c.args.rule in
     let some : 1 ≤ r = omega arith in
     let within : r - 1 < 8 = omega arith in
-    ap (λ ts. get_or ts (r - 1) false) c.rules-met.ensures ∙ get_or_default tests (r - 1) false true within
-    ∙ meets_answer n c.args.situation c.args.line.now c.detail-of.result c.in-Some.bar c.detail-of.ensures c.in-Some.ensures.value r some
+    ap (λ ts. get_or ts (r - 1) false) c.rules_met.ensures ∙ get_or_default tests (r - 1) false true within
+    ∙ meets_answer n c.args.situation c.args.line.now c.detail_of.result c.in-Some.bar c.detail_of.ensures c.in-Some.ensures.value r some

@@ -9,4 +9,4 @@ returns g c =
     let n = g.A.Annex.means c.args.self.now.annex in
     let l = c.args.line.now in
     let b = borne n c.args.situation l in
-    record { value = c.test-line.ensures; says = subst (TestSays (in_range l) (agrees l) b) (sym c.test-line.ensures) (test_says (in_range l) (agrees l) b) }
+    record { value = c.test_line.ensures; says = subst (TestSays (in_range l) (agrees l) b) (sym c.test_line.ensures) (test_says (in_range l) (agrees l) b) }
