@@ -35,7 +35,7 @@ pub(crate) fn detail_of(line: &BarLine) -> Detail
 
 // The numbers of a line beside those of the tables and the annex, if diameter and strength are tabled.
 fn bar_of<A: Annex>(annex: &A, situation: Situation, line: &BarLine) -> Option<Bar>
-    ensures { result ≡ (if tabled line.now.dia diameters && tabled line.now.fck strengths then Some (bar_of (means annex.now) situation line.now) else None) }
+    ensures { result ≡ (if tabled line.now.dia diameters && tabled line.now.fck strengths then Some (bar_of (A.means annex.now) situation line.now) else None) }
 {
     let diameter = Diameter::new(line.dia)?;
     let strength = Strength::new(line.fck)?;
@@ -74,7 +74,7 @@ fn bar_of<A: Annex>(annex: &A, situation: Situation, line: &BarLine) -> Option<B
 
 // The bar of a line that passes its test.
 pub(crate) fn tested_bar<A: Annex>(annex: &A, situation: Situation, line: &BarLine) -> Option<Bar>
-    ensures value { result ≡ (if is_ok (test_of (means annex.now) situation line.now) then Some (bar_of (means annex.now) situation line.now) else None) }
+    ensures value { result ≡ (if is_ok (test_of (A.means annex.now) situation line.now) then Some (bar_of (A.means annex.now) situation line.now) else None) }
     ensures ranged { IfSome result Ranged }
 {
     if test_line(annex, situation, line).is_err() {

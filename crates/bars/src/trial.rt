@@ -81,7 +81,7 @@ fn fields_agree(line: &BarLine) -> bool
 
 // Whether the stress is at most fyk/γs.
 fn is_borne<A: Annex>(annex: &A, situation: Situation, line: &BarLine) -> bool
-    ensures { result ≡ borne (means annex.now) situation line.now }
+    ensures { result ≡ borne (A.means annex.now) situation line.now }
 {
     let stress = line.stress as u64;
     let strength = line.fyk as u64;
@@ -94,7 +94,7 @@ pub(crate) fn test_line<A: Annex>(
     situation: Situation,
     line: &BarLine,
 ) -> Result<(), LineFault>
-    ensures { result ≡ test_of (means annex.now) situation line.now }
+    ensures { result ≡ test_of (A.means annex.now) situation line.now }
 {
     verdict(
         first_out(line),
