@@ -3,7 +3,7 @@ use Rattle.std.proofs.Common.{◌≡◌, ℕ, zero, suc, ◌<◌, Bool, true, fa
 use Rattle.std.proofs.lemmas.Bool.{and_parts, eqb-true, leb-true, not-true, not-false}
 use Rattle.std.proofs.lemmas.Bool.Decides.{Decides-not, Decides-eqb}
 use Rattle.std.proofs.ByRecursion.{Decides-by_and}
-use Rattle.std.specs.List.{AllByRecursion as All}
+use Rattle.std.specs.List.{AllByRecursion}
 use Rattle.text.specs.Texts.{Bytes, Lacks, Plain}
 use Rattle.reader.specs.Names.{WellNamed, Unlike, stands}
 use Rattle.reader.proofs.Tables.{place_some}
@@ -35,7 +35,7 @@ all_plain (n ∷ ns) = (lacks 59 n && lacks 10 n) && all_plain ns
 lacks_at : (s : ℕ) (bs : Bytes) → lacks s bs ≡ true → Lacks s bs
 lacks_at s bs = (Decides-by_and (λ b. not (eqb b s)) (λ b. b ≡ s → ⊥) (lacks s) (λ b. Decides-not (eqb b s) (Decides-eqb b s)) refl (λ _ _. refl) bs).0
 
-plain_from_test : (ns : List Bytes) → all_plain ns ≡ true → All Plain ns
+plain_from_test : (ns : List Bytes) → all_plain ns ≡ true → AllByRecursion Plain ns
 plain_from_test [] t = tt
 plain_from_test (n ∷ ns) t =
     let parts = and_parts (lacks 59 n && lacks 10 n) (all_plain ns) t in

@@ -3,7 +3,7 @@ use Rattle.std.proofs.Common.{◌≡◌, ℕ, zero, suc, ◌+◌, ◌-◌, ◌<�
 use Rattle.std.proofs.ByRecursion.{All-get_or, All-from_get_or}
 use Rattle.std.proofs.lemmas.List.{get_or-map, length-map, same_lists, get_or_default}
 use Rattle.std.proofs.lemmas.Bool.{cases_Bool, cond-true, cond-false, eq-eqb, eqb-true, and_parts, leb-true, false≢true}
-use Rattle.std.specs.List.{AllByRecursion as All}
+use Rattle.std.specs.List.{AllByRecursion}
 use Rattle.refusal.specs.declared.Refusal.{Refusal}
 use Rattle.refusal.specs.declared.Refusal.TheVariants.{Text, Count}
 use Rattle.refusal.specs.Refusals.{at_line, on_err, on_ok}
@@ -156,7 +156,7 @@ module _ (names : List Bytes) (good : WellNamed names) (header : Parts) (once : 
     All-from_get_or Plain parts [] (λ k lt. let w = once.known k (omega (arith, u.parts_count)) in writes_plain _ _ (u.written w.0 k w.1 (omega (arith, u.parts_count)) (sym w.2))),
   )
 
-  plain_lines : (rest : List Parts) (lines : List (List ℕ)) → AllUnder names header rest lines → All PlainLine rest
+  plain_lines : (rest : List Parts) (lines : List (List ℕ)) → AllUnder names header rest lines → AllByRecursion PlainLine rest
   plain_lines [] [] u = tt
   plain_lines [] (l ∷ ls) u = absurd u
   plain_lines (parts ∷ rest) [] u = absurd u
@@ -169,7 +169,7 @@ told_ok names header (Err e) h once = absurd (h once)
 -- what is said is read
 pub says_read : (names : List Bytes) (text : Bytes) (lines : List (List ℕ)) → WellNamed names → Says names text lines → read_of names text ≡ Ok lines
 says_read names text lines good s =
-    let plain : All PlainLine (s.header ∷ s.rest) = (plain_header names good s.header s.names_once, plain_lines names good s.header s.names_once s.rest lines s.values) in
+    let plain : AllByRecursion PlainLine (s.header ∷ s.rest) = (plain_header names good s.header s.names_once, plain_lines names good s.header s.names_once s.rest lines s.values) in
     let all : parts_by_line text ≡ s.header ∷ s.rest = ap parts_by_line (sym s.joined) ∙ text_apart (s.header ∷ s.rest) plain in
     let whole = text_of_lines s.header s.rest text plain s.joined s.short in
     let w = told_ok names s.header (places_of names s.header) (header_law names s.header good.unlike) s.names_once in

@@ -1,7 +1,7 @@
 -- The names of fields, and where they stand in the first line of a text. Assumes nothing.
 use Rattle.std.specs.Prelude.{◌≡◌, ℕ, ◌+◌, ◌-◌, ◌<◌, ◌≤◌, Bool, true, false, cond, not, ◌&&◌, List, [], ◌∷◌, ◌++◌, map, length, Ok, Err, Option, Result, ◌==◌, ◌≢◌, slice_index_or}
 use Rattle.std.specs.Option as options
-use Rattle.std.specs.List.{AllByRecursion as All}
+use Rattle.std.specs.List.{AllByRecursion}
 use Rattle.std.specs.Str.{bytes_eq}
 use Rattle.refusal.specs.declared.Refusal.{Refusal}
 use Rattle.refusal.specs.declared.Refusal.TheVariants.{Name, Missing}
@@ -16,7 +16,7 @@ pub record WellNamed (names : List Bytes) : Type 0 where
   pub some : 1 ≤ length names
   pub few : length names ≤ 30
   pub unlike : Unlike names
-  pub plain : All Plain names
+  pub plain : AllByRecursion Plain names
 
 -- the header bears each name once, in some order, and no other
 pub record EachOnce (names : List Bytes) (header : Parts) : Type 0 where

@@ -3,7 +3,7 @@ use Rattle.std.proofs.Common.{◌≡◌, ℕ, zero, suc, ◌+◌, ◌-◌, ◌<�
 use Rattle.std.proofs.ByRecursion.{All-append}
 use Rattle.std.proofs.lemmas.List.{append-nil, append_assoc, length_push, get_or_push}
 use Rattle.std.proofs.lemmas.Bool.{cases_Bool, cond-true, cond-false, eqb-true, eqb-false, ne_eqb, and_right, and_parts, and_from, eq-eqb, le-leb, lt-ltb, false≢true}
-use Rattle.std.specs.List.{flat_map, AllByRecursion as All}
+use Rattle.std.specs.List.{flat_map, AllByRecursion}
 use Rattle.text.specs.Texts.{Bytes, Parts, is_text, on_first, between, lines_of, parts_of, parts_by_line, part_text, line_text, text_of, Lacks, Plain, PlainLine}
 use Rattle.text.proofs.Cutting.{between_cut, between_whole, lines_cut}
 
@@ -94,11 +94,11 @@ line_body : (p : Bytes) (ps : Parts) → line_text (p ∷ ps) ≡ body p ps ++ (
 line_body p [] = append-nil (p ++ (10 ∷ []))
 line_body p (q ∷ qs) = line_two p q qs ∙ ap (λ t. p ++ (59 ∷ t)) (line_body q qs) ∙ sym (append_assoc p (59 ∷ body q qs) (10 ∷ []))
 
-body_lacks : (p : Bytes) (ps : Parts) → Plain p → All Plain ps → Lacks 10 (body p ps)
+body_lacks : (p : Bytes) (ps : Parts) → Plain p → AllByRecursion Plain ps → Lacks 10 (body p ps)
 body_lacks p [] h k = h.1
 body_lacks p (q ∷ qs) h k = lacks_append 10 p (59 ∷ body q qs) h.1 ((λ e. omega arith), body_lacks q qs k.0 k.1)
 
-parts_apart : (p : Bytes) (ps : Parts) → Plain p → All Plain ps → parts_of (body p ps) ≡ p ∷ ps
+parts_apart : (p : Bytes) (ps : Parts) → Plain p → AllByRecursion Plain ps → parts_of (body p ps) ≡ p ∷ ps
 parts_apart p [] h k = between_whole 59 p h.0
 parts_apart p (q ∷ qs) h k = between_cut 59 ([] ∷ []) p (body q qs) h.0 ∙ ap (λ t. p ∷ t) (parts_apart q qs k.0 k.1)
 
@@ -109,7 +109,7 @@ line_apart (p ∷ ps) rest h =
     lines_cut _ (body p ps) rest (t, body_lacks p ps h.1.0 h.1.1) ∙ ap (λ l. l ∷ parts_by_line rest) (parts_apart p ps h.1.0 h.1.1)
 
 -- lines of plain parts come apart as they were joined
-pub text_apart : (lines : List Parts) → All PlainLine lines → parts_by_line (text_of lines) ≡ lines
+pub text_apart : (lines : List Parts) → AllByRecursion PlainLine lines → parts_by_line (text_of lines) ≡ lines
 text_apart [] h = refl
 text_apart (l ∷ ls) h = line_apart l (text_of ls) h.0 ∙ ap (λ t. l ∷ t) (text_apart ls h.1)
 
@@ -118,11 +118,11 @@ line_ends : (parts : Parts) → 0 < length parts → (front : Bytes) × (line_te
 line_ends [] h = absurd (omega arith)
 line_ends (p ∷ ps) h = (body p ps, line_body p ps)
 
-text_ends : (l : Parts) (ls : List Parts) → PlainLine l → All PlainLine ls → (front : Bytes) × (text_of (l ∷ ls) ≡ front ++ (10 ∷ []))
+text_ends : (l : Parts) (ls : List Parts) → PlainLine l → AllByRecursion PlainLine ls → (front : Bytes) × (text_of (l ∷ ls) ≡ front ++ (10 ∷ []))
 text_ends l [] h hs = let w = line_ends l h.0 in (w.0, append-nil (line_text l) ∙ w.1)
 text_ends l (m ∷ ms) h hs = let w = text_ends m ms hs.0 hs.1 in (line_text l ++ w.0, ap (λ t. line_text l ++ t) w.1 ∙ sym (append_assoc (line_text l) w.0 (10 ∷ [])))
 
-pub text_of_lines : (l : Parts) (ls : List Parts) (bs : Bytes) → All PlainLine (l ∷ ls) → text_of (l ∷ ls) ≡ bs → length bs ≤ 65535 → is_text bs ≡ true
+pub text_of_lines : (l : Parts) (ls : List Parts) (bs : Bytes) → AllByRecursion PlainLine (l ∷ ls) → text_of (l ∷ ls) ≡ bs → length bs ≤ 65535 → is_text bs ≡ true
 text_of_lines l ls bs h e few =
     let w = text_ends l ls h.0 h.1 in
     let is : bs ≡ w.0 ++ (10 ∷ []) = sym e ∙ w.1 in

@@ -1,7 +1,7 @@
 -- A value's digits, one by one, and the law that a value is read exactly where a number is written. Assumes nothing.
 use Rattle.std.proofs.Common.{◌≡◌, ℕ, suc, ◌+◌, ◌-◌, ◌*◌, ◌^◌, ◌<◌, ◌≤◌, Bool, true, false, cond, ◌&&◌, eqb, leb, List, [], ◌∷◌, length, get_or, take, drop, Some, None, decimal, Option, sym, refl, ap, ◌∙◌, subst, ⊎_elim, pow-suc, add-one, arith, MatchResult}
 use native.Mathlib.Nat.{pow-le-pow_right}
-use Rattle.std.proofs.lemmas.Fmt.{decimal-digits_value as decimal-value}
+use Rattle.std.proofs.lemmas.Fmt.{decimal-digits_value}
 use Rattle.std.proofs.ByRecursion.{All-from_get_or}
 use Rattle.std.proofs.lemmas.List.{at_drop_more, take_rest, nil_from_length}
 use Rattle.std.proofs.lemmas.Str.Parse.{IsNumeralModel, numerals_by_value, tells_all_ascii_digits, digits_value_short, not_in_digits}
@@ -9,7 +9,7 @@ use Rattle.std.proofs.lemmas.Bool.{cases_Bool, cond-true, cond-false, and_from, 
 use Rattle.std.specs.Option.{ok_or}
 use Rattle.std.specs.Str.Parse.{digits_value, digits_value_after}
 use Rattle.std.specs.Int.{IsInRange}
-use Rattle.std.specs.Char.{is_ascii_digit, digit_value as digitValue}
+use Rattle.std.specs.Char.{is_ascii_digit, digit_value}
 use Rattle.std.specs.Str.{all_ascii_digits}
 use Rattle.text.specs.Texts.{Lacks, Plain}
 use Rattle.text.specs.Values.{Writes, digits_from, zero_alone, value_of}
@@ -40,8 +40,8 @@ first_digit (b ∷ bs) lo hi few =
     let z : 0 + (b - 48) ≡ b - 48 = omega arith in
     ap (digits_from (b - 48)) t ∙ sym (cond-false _ _ _ (ne_eqb b 48 (omega arith)) ∙ cond-true _ _ _ (le-leb _ 6 short) ∙ cond-true _ _ _ (and_from _ _ (le-leb 48 b (omega arith)) (le-leb b 57 hi)) ∙ ap (λ n. digits_from n bs) z)
 
-digit_value : (b : ℕ) → is_ascii_digit b ≡ true → digitValue b ≡ b - 48
-digit_value b e =
+digit_value_lem : (b : ℕ) → is_ascii_digit b ≡ true → digit_value b ≡ b - 48
+digit_value_lem b e =
     let h = and_parts (leb 48 b) (leb b 57) e in
     cond-false _ _ _ (le-ltb b 48 (leb-true 48 b h.0)) ∙ cond-true _ _ _ (lt-ltb b 58 (let k = leb-true b 57 h.1 in omega arith))
 
@@ -50,7 +50,7 @@ digits_are : (n : ℕ) (bs : List ℕ) → digits_from n bs ≡ cond (all_ascii_
 digits_are n [] = refl
 digits_are n (b ∷ bs) =
     ⊎_elim
-    (λ t. cond-true _ _ _ t ∙ digits_are (n * 10 + (b - 48)) bs ∙ (λ i. cond (sym (ap (λ x. x && all_ascii_digits bs) t) i) (Some (digits_value_after 10 (n * 10 + sym (digit_value b t) i) bs)) None))
+    (λ t. cond-true _ _ _ t ∙ digits_are (n * 10 + (b - 48)) bs ∙ (λ i. cond (sym (ap (λ x. x && all_ascii_digits bs) t) i) (Some (digits_value_after 10 (n * 10 + sym (digit_value_lem b t) i) bs)) None))
     (λ f. cond-false _ _ _ f ∙ sym (cond-false _ _ _ (and_left _ _ f)))
     (cases_Bool (is_ascii_digit b))
 
@@ -101,7 +101,7 @@ writes_value (b ∷ bs) n w =
 -- it is the number's numeral in decimal
 pub writes_decimal : (part : List ℕ) (n : ℕ) → Writes part n → part ≡ decimal n
 writes_decimal part n w =
-    sym (decimal-value own part w.digits w.some w.unpadded (let s = digits_value_short own part 7 w.digits w.few in omega arith)) ∙ ap decimal w.number
+    sym (decimal-digits_value own part w.digits w.some w.unpadded (let s = digits_value_short own part 7 w.digits w.few in omega arith)) ∙ ap decimal w.number
 
 -- a value is read exactly where a number is written
 pub value_law : {E : Type 0} (part : List ℕ) (e : E) → MatchResult (ok_or (value_of part) e) (Writes part) (λ _. (n : ℕ) → Writes part n → ⊥)

@@ -1,7 +1,7 @@
 -- A text by its lines and their parts, and the text that lines and parts make. Assumes nothing.
 use Rattle.std.specs.Prelude.{◌≡◌, ℕ, suc, ◌-◌, ◌≤◌, Bool, cond, ◌&&◌, List, [], ◌∷◌, ◌++◌, map, length, Option, MatchOption, ◌==◌, ◌≢◌, nat_le, nat_lt, slice_index}
 use Rattle.std.specs.Borrow.{Bor}
-use Rattle.std.specs.List.{flat_map, AllByRecursion as All}
+use Rattle.std.specs.List.{flat_map, AllByRecursion}
 
 -- a byte is a number below 256: 59 is the semicolon, 10 the line feed
 abbrev pub Bytes : Type 0
@@ -56,7 +56,7 @@ text_of lines = flat_map line_text lines
 
 -- no byte is s
 abbrev pub Lacks : ℕ → Bytes → Type 0
-Lacks s bs = All (λ b. b ≢ s) bs
+Lacks s bs = AllByRecursion (λ b. b ≢ s) bs
 
 -- a part that can be told from its neighbours: no semicolon and no line feed in it
 abbrev pub Plain : Bytes → Type 0
@@ -64,7 +64,7 @@ Plain part = Lacks 59 part × Lacks 10 part
 
 -- a line of such parts, one at least
 abbrev pub PlainLine : Parts → Type 0
-PlainLine parts = (1 ≤ length parts) × All Plain parts
+PlainLine parts = (1 ≤ length parts) × AllByRecursion Plain parts
 
 -- how many bytes are line feeds
 abbrev pub line_feeds : Bytes → ℕ

@@ -3,7 +3,7 @@ ghost use Rattle.std.specs.Prelude.{◌≡◌, ℕ, ◌≤◌, true, List, ◌�
 ghost use Rattle.std.specs.Option.{option_map};
 ghost use Rattle.refusal.specs.declared.Refusal.TheVariants.{Text};
 ghost use Rattle.refusal.specs.Refusals.{on_ok};
-ghost use Rattle.std.specs.List.{AllByRecursion as All};
+ghost use Rattle.std.specs.List.{AllByRecursion};
 ghost use Rattle.text.specs.Texts.{Parts, is_text, parts_of, parts_by_line, line_feeds, text_of, PlainLine, Cuts};
 ghost use Rattle.text.specs.Tokens.{ahead, lexeme, Gives, parts_behind, in_line, this_line, next_part, after_next};
 
@@ -89,7 +89,7 @@ impl<'t> Lexer<'t> {
         ensures ahead { on_ok ahead result ≡ (if is_text text.now then Ok (parts_by_line text.now) else Err Text) }
         ensures names { IfOk result (λ l. l.in_names ≡ true) }
         ensures joined { IfOk result (λ l. text_of (ahead l) ≡ text.now) }
-        ensures apart { IfOk result (λ l. (lines : List Parts) → All PlainLine lines → text_of lines ≡ text.now → ahead l ≡ lines) }
+        ensures apart { IfOk result (λ l. (lines : List Parts) → AllByRecursion PlainLine lines → text_of lines ≡ text.now → ahead l ≡ lines) }
     {
         if !is_text(text) {
             return Err(Refusal::Text);

@@ -1,6 +1,6 @@
 -- Lines worked by hand, and what the definitions answer to them under the recommended annex. Assumes nothing.
 use Rattle.std.specs.Prelude.{◌≡◌, ℕ, List, [], ◌∷◌, Ok, Err, Result}
-use Rattle.std.specs.List.{AllByRecursion as All}
+use Rattle.std.specs.List.{AllByRecursion}
 use Rattle.eurocode.specs.declared.Situation.{Situation}
 use Rattle.eurocode.specs.declared.Situation.TheVariants.{Persistent, Accidental}
 use Rattle.refusal.specs.Refusals.{on_ok}
@@ -47,4 +47,4 @@ worked_lines =
 
 -- every one of them holds
 abbrev pub AllHold : Type 0
-AllHold = All Holds worked_lines
+AllHold = AllByRecursion Holds worked_lines

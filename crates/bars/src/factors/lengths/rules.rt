@@ -1,7 +1,7 @@
 // The eight rules of a bar.
 ghost use Rattle.std.specs.Prelude.{◌≡◌};
 ghost use Rattle.anchorage.specs.Ranges.{Ranged};
-ghost use Rattle.anchorage.specs.Rules.{straight, rule1, rule2, rule3, rule4, rule5, rule6, rule7, rule8, rules as allRules};
+ghost use Rattle.anchorage.specs.Rules.{straight, rule1, rule2, rule3, rule4, rule5, rule6, rule7, rule8, rules as all_rules};
 
 use super::required_length;
 
@@ -85,7 +85,7 @@ fn meets8(d: Detail, b: &Bar) -> bool
 // Which rules are met, in their order.
 fn rules_met(d: Detail, b: &Bar) -> [bool; 8]
     requires { Ranged b.now }
-    ensures { result ≡ allRules d b.now }
+    ensures { result ≡ all_rules d b.now }
 {
     [
         meets1(b),

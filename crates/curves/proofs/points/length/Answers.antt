@@ -18,8 +18,8 @@ returns c =
     let fck = fck_of c.args.entry.strength in
     let bond = c.args.entry.bond in
     let stress = c.args.stress in
-    let on : on_curve joint stress ≡ true = and_from _ _ (le-leb stress 4347 (omega arith)) (sym c.if-not-is-shared.ensures) in
-    let is : c.figure.result ≡ length_at joint φ fck bond stress = c.figure.ensures ∙ ap (figure_of (bar_meaning recommended) Persistent) c.line-of.ensures in
+    let on : on_curve joint stress ≡ true = and_from _ _ (le-leb stress 4347 (omega arith)) (sym c.if-not-is_shared.ensures) in
+    let is : c.figure.result ≡ length_at joint φ fck bond stress = c.figure.ensures ∙ ap (figure_of (bar_meaning recommended) Persistent) c.line_of.ensures in
     record {
       value = ap Some is ∙ sym (ap (λ b. cond b (Some (length_at joint φ fck bond stress)) None) on);
       rises = λ more φ' σ j t d h on'. omega (arith, is, grows joint more φ φ' fck bond stress σ (mm_tabled c.args.entry.diameter) t (fck_tabled c.args.entry.strength) j d h on on');
