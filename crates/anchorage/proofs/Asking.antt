@@ -1,5 +1,5 @@
 -- When the numbers of one bar ask no less than those of another. Assumes nothing.
-use Rattle.std.proofs.Common.{ℕ, ◌*◌, ◌≤◌}
+use Rattle.std.proofs.Common.{◌*◌, ◌≤◌}
 use Rattle.anchorage.specs.declared.Bar.{Bar}
 use Rattle.anchorage.specs.declared.Shape.{Shape}
 use Rattle.anchorage.specs.Lengths.{twice_cd}

@@ -1,6 +1,6 @@
 -- What a program computes on numerators over common denominators, by the formulas. Assumes nothing.
-use Rattle.std.proofs.Common.{◌≡◌, ℕ, ◌+◌, ◌-◌, ◌*◌, ◌<◌, ◌≤◌, max, Bool, true, false, cond, leb, sym, refl, ap, ◌∙◌, ap₂, le_trans, le_of_eq, mul_assoc, mul-pos, one-mul, mul-one, arith, lit<, lit≤}
-use native.Mathlib.Nat.{mul-sub, max_comm}
+use Rattle.std.proofs.Common.{◌≡◌, ℕ, ◌+◌, ◌-◌, ◌*◌, ◌<◌, ◌≤◌, max, Bool, true, false, cond, leb, sym, refl, ap, ◌∙◌, ap₂, le_trans, le_of_eq, mul-pos, one-mul, arith, lit<, lit≤}
+use native.Mathlib.Nat.{max_comm}
 use Rattle.std.proofs.lemmas.Bool.Decides.{nat_tests}
 use Rattle.measure.specs.Fractions.{Fraction, ◌over◌, whole, tenths, ◌·◌, ◌÷◌, ◌less◌, ◌plus◌, ◌⊔◌, ◌≼◌}
 use Rattle.measure.specs.Rounding.{ceiling, ths, rounded, reaches}

@@ -1,15 +1,14 @@
 -- A bar that asks less meets every rule that one which asks more does. Assumes nothing.
-use Rattle.std.proofs.Common.{◌≡◌, ℕ, zero, suc, ◌+◌, ◌*◌, ◌<◌, ◌≤◌, Bool, true, false, ◌&&◌, ◌||◌, eqb, leb, List, [], ◌∷◌, get_or, refl, mul-le-mul_right, mul-le-mul, mul-pos, arith, lit<}
+use Rattle.std.proofs.Common.{◌≡◌, ℕ, zero, suc, ◌*◌, ◌<◌, ◌≤◌, Bool, true, false, List, [], ◌∷◌, get_or, refl, mul-le-mul_right, mul-le-mul, mul-pos, arith, lit<}
 use Rattle.std.proofs.lemmas.Bool.Decides.{nat_tests}
-use Rattle.measure.specs.Fractions.{Fraction, ◌over◌, tenths, ◌·◌, ◌÷◌, ◌plus◌, ◌≼◌}
+use Rattle.measure.specs.Fractions.{◌over◌, tenths, ◌·◌, ◌÷◌, ◌plus◌, ◌≼◌}
 use Rattle.measure.specs.Rounding.{reaches}
 use Rattle.measure.proofs.Order.{·-mono, ÷-mono, over_mono, reaches_more}
 use Rattle.anchorage.specs.declared.Bar.{Bar}
 use Rattle.anchorage.specs.declared.Detail.{Detail}
-use Rattle.anchorage.specs.Lengths.{figure}
 use Rattle.anchorage.specs.Rules.{straight, fcd, least_mandrel, rule1, rule2, rule3, rule4, rule5, rule6, rule7, rule8, rules}
 use Rattle.anchorage.specs.Ranges.{Ranged}
-use Rattle.anchorage.proofs.Asking.{Longer, Stricter}
+use Rattle.anchorage.proofs.Asking.{Stricter}
 use Rattle.anchorage.proofs.Rising.{figure_mono}
 
 -- what holds of xs, place by place, holds of ys

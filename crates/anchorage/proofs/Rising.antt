@@ -1,14 +1,14 @@
 -- The figure rises with what a bar asks. Assumes nothing.
-use Rattle.std.proofs.Common.{◌≡◌, ℕ, ◌+◌, ◌-◌, ◌*◌, ◌<◌, ◌≤◌, Bool, true, false, cond, ◌&&◌, ltb, leb, refl, le_refl, mul-le-mul_right, mul-le-mul, lt_of_mul-lt-mul_right, mul-le-mul_left, mul-pos, arith, lit<, lit≤}
+use Rattle.std.proofs.Common.{ℕ, ◌+◌, ◌-◌, ◌*◌, ◌<◌, ◌≤◌, Bool, true, false, cond, ◌&&◌, ltb, leb, le_refl, mul-le-mul_right, lt_of_mul-lt-mul_right, mul-le-mul_left, arith, lit<}
 use Rattle.std.proofs.lemmas.Bool.Decides.{nat_tests}
-use Rattle.measure.specs.Fractions.{Fraction, ◌over◌, whole, tenths, hundredths, ◌·◌, ◌÷◌, ◌less◌, ◌⊔◌, ◌≼◌}
+use Rattle.measure.specs.Fractions.{Fraction, ◌over◌, whole, tenths, ◌÷◌, ◌less◌, ◌≼◌}
 use Rattle.measure.specs.Rounding.{rounded}
-use Rattle.measure.proofs.Order.{≼_refl, ≼_trans, ·-mono, ÷-mono, less_mono, ⊔-mono, cond_mono, ths_mono, rounded_mono, lit≼, over_mono, leb_cases, Positive, ·-pos, ÷-pos, sub_mul}
+use Rattle.measure.proofs.Order.{≼_refl, ·-mono, ÷-mono, less_mono, ⊔-mono, cond_mono, ths_mono, rounded_mono, lit≼, over_mono, leb_cases, Positive, ·-pos, ÷-pos, sub_mul}
 use Rattle.anchorage.specs.declared.Bar.{Bar}
 use Rattle.anchorage.specs.declared.Detail.{Detail}
 use Rattle.anchorage.specs.declared.Shape.{Shape}
 use Rattle.anchorage.specs.declared.Shape.TheVariants.{Straight, Bent, Loop}
-use Rattle.anchorage.specs.Quantities.{As, Ast}
+use Rattle.anchorage.specs.Quantities.{As}
 use Rattle.anchorage.specs.Lengths.{η1, η2, fbd, lb, twice_cd, cd, factor, far, α1, ample, α2, Astmin, by_surplus, α3, α4, α5, α6, α235, lbd, l0, required, figure, millionths}
 use Rattle.anchorage.specs.Ranges.{Ranged}
 use Rattle.anchorage.proofs.Asking.{Longer}

@@ -1,7 +1,7 @@
 -- The length that an anchorage or a lap needs (EN 1992-1-1, 8.4 and 8.7). Assumes nothing.
 -- `up k x` is how x is rounded to k-ths: with `unrounded` the formulas give the exact requirement, with `rounded` the figure
 -- before it is itself rounded to whole mm.
-use Rattle.std.specs.Prelude.{ℕ, ◌+◌, ◌-◌, ◌*◌, min, Bool, true, false, cond, ◌&&◌, nat_le, nat_lt}
+use Rattle.std.specs.Prelude.{ℕ, ◌+◌, ◌-◌, ◌*◌, min, Bool, false, cond, ◌&&◌, nat_le, nat_lt}
 use Rattle.measure.specs.Fractions.{Fraction, ◌over◌, whole, tenths, hundredths, ◌·◌, ◌÷◌, ◌less◌, ◌⊔◌}
 use Rattle.measure.specs.Rounding.{ths, rounded, unrounded}
 use Rattle.anchorage.specs.declared.Bar.{Bar}

@@ -1,5 +1,5 @@
 -- What the formulas may rely on: the ranges of a line that passes its test, of the tables and of every annex. Assumes nothing.
-use Rattle.std.specs.Prelude.{ℕ, ◌≤◌}
+use Rattle.std.specs.Prelude.{◌≤◌}
 use Rattle.anchorage.specs.declared.Bar.{Bar}
 
 pub record Ranged (b : Bar) : Type 0 where

@@ -1,5 +1,5 @@
 -- The eight rules of a bar (EN 1992-1-1, 8.2, 8.3, 8.4 and 8.7), as tests. A rule that does not apply is met. Assumes nothing.
-use Rattle.std.specs.Prelude.{ℕ, ◌+◌, ◌*◌, Bool, true, false, ◌&&◌, ◌||◌, leb, List, [], ◌∷◌, nat_eq, nat_le}
+use Rattle.std.specs.Prelude.{◌+◌, ◌*◌, Bool, true, false, ◌&&◌, ◌||◌, leb, List, [], ◌∷◌, nat_eq, nat_le}
 use Rattle.measure.specs.Fractions.{Fraction, ◌over◌, ◌·◌, ◌÷◌, ◌plus◌}
 use Rattle.measure.specs.Rounding.{reaches}
 use Rattle.anchorage.specs.declared.Bar.{Bar}

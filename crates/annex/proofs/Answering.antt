@@ -1,5 +1,5 @@
 -- The two laws in the words of the questions. Assumes nothing.
-use Rattle.std.proofs.Common.{◌≡◌, ℕ, ◌+◌, ◌<◌, ◌≤◌, T, List, [], ◌∷◌, ◌++◌, length, get_or, take, replicate, sym, refl, ap, ◌∙◌, subst, arith, lit<}
+use Rattle.std.proofs.Common.{◌≡◌, ℕ, ◌+◌, ◌<◌, ◌≤◌, T, get_or, take, replicate, sym, ap, ◌∙◌, arith, lit<}
 use Rattle.std.proofs.lemmas.List.{get_or-append-add, get_or-replicate}
 use Rattle.eurocode.specs.declared.Situation.{Situation}
 use Rattle.eurocode.specs.declared.Situation.TheVariants.{Persistent, Accidental}

@@ -1,8 +1,8 @@
 -- The laws of an annex's numbers and their tests. Assumes nothing.
-use Rattle.std.specs.Prelude.{◌≡◌, ℕ, zero, suc, ◌+◌, ◌-◌, ◌<◌, ◌≤◌, Bool, true, false, cond, not, ◌&&◌, List, length, is_some, Some, None, Decides, Option, MatchOption, ◌==◌, nat_le, slice_index, slice_index_or, refl}
+use Rattle.std.specs.Prelude.{◌≡◌, ℕ, zero, suc, ◌+◌, ◌-◌, ◌<◌, ◌≤◌, Bool, true, false, cond, not, List, length, is_some, Some, None, Decides, Option, MatchOption, ◌==◌, nat_le, slice_index, slice_index_or, refl}
 use Rattle.std.proofs.Common.{sym, ap, subst, ◌∙◌, ⊎_elim, arith}
 use Rattle.std.proofs.lemmas.Bool.{and_parts, and_from, leb-true, le-leb, eqb-true, eq-eqb, both_ways, cases_order}
-use Rattle.annex.specs.Numbers.{annex_names, ranges, fields_of, recommended}
+use Rattle.annex.specs.Numbers.{ranges, fields_of, recommended}
 use Rattle.annex.specs.Laws.{Ranged, Rising, in_range, no_fall, Passes, FailsFirst, first_failed, FirstLaw, first_out, first_fall, is_ranged, is_rising}
 
 -- what holds at i and behind it

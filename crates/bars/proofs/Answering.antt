@@ -1,5 +1,5 @@
 -- The answers of the bar book, from what its functions compute. Assumes nothing.
-use Rattle.std.proofs.Common.{◌≡◌, ℕ, suc, ◌+◌, ◌-◌, ◌≤◌, Bool, true, false, cond, List, ◌∷◌, length, get_or, is_ok, Some, None, Option, sym, refl, ap, ◌∙◌, ap₂, arith}
+use Rattle.std.proofs.Common.{◌≡◌, ℕ, suc, ◌+◌, ◌-◌, ◌≤◌, Bool, true, false, cond, ◌∷◌, get_or, is_ok, Some, None, sym, refl, ap, ◌∙◌, ap₂, arith}
 use Rattle.eurocode.specs.declared.Situation.{Situation}
 use Rattle.annex.specs.declared.numbers.Numbers.{Numbers}
 use Rattle.anchorage.specs.declared.Bar.{Bar}
@@ -7,7 +7,7 @@ use Rattle.anchorage.specs.declared.Detail.{Detail}
 use Rattle.anchorage.specs.Lengths.{figure}
 use Rattle.anchorage.specs.Rules.{rules}
 use Rattle.checklist.specs.Firsts.{first_failed, test_at}
-use Rattle.book.specs.Meaning.{or_zero, passes, figure_of, meets_of, mark_of}
+use Rattle.book.specs.Meaning.{or_zero, figure_of, meets_of, mark_of}
 use Rattle.bars.specs.declared.lines.BarLine.{BarLine}
 use Rattle.bars.specs.Details.{detail_of, bar_of}
 use Rattle.bars.specs.Tests.{test_of}

@@ -1,31 +1,29 @@
 -- The two laws of the bar book, the second over two annexes and two situations. Assumes nothing.
-use Rattle.std.specs.Prelude.{◌≡◌, ℕ, zero, suc, ◌*◌, ◌<◌, ◌≤◌, Bool, true, false, cond, ◌&&◌, ◌||◌, T, ◌∷◌, is_ok, slice_index_or}
+use Rattle.std.specs.Prelude.{◌≡◌, ℕ, zero, suc, ◌≤◌, true, false, T, is_ok, slice_index_or}
 use Rattle.std.proofs.Math.Path.{refl, subst}
-use Rattle.std.proofs.Common.{sym, ap, le_refl, mul-le-mul_left, arith}
+use Rattle.std.proofs.Common.{le_refl, mul-le-mul_left, arith}
 use Rattle.std.proofs.Math.Nat.{le_trans, mul-le-mul}
-use Rattle.std.proofs.lemmas.Bool.{and_parts}
 use Rattle.std.proofs.lemmas.Bool.Decides.{nat_tests}
 use Rattle.eurocode.specs.declared.Situation.{Situation}
-use Rattle.eurocode.specs.Tables.{diameters, strengths, tabled, area_of}
+use Rattle.eurocode.specs.Tables.{diameters, tabled}
 use Rattle.eurocode.proofs.Rising.{area_rises, slender_rises, fctk_rises}
 use Rattle.annex.specs.declared.numbers.Numbers.{Numbers}
 use Rattle.annex.specs.Numbers.{fields_of, gc_of, gs_of, multiple_of}
 use Rattle.annex.specs.Laws as laws
 use Rattle.annex.proofs.Answering.{multiple_rises}
-use Rattle.measure.specs.Fractions.{Near}
 use Rattle.anchorage.specs.declared.Bar.{Bar}
 use Rattle.anchorage.specs.declared.Shape.{Shape}
 use Rattle.anchorage.specs.declared.Shape.TheVariants.{Straight, Bent, Loop}
-use Rattle.anchorage.specs.Lengths.{twice_cd, figure, exact}
+use Rattle.anchorage.specs.Lengths.{twice_cd, figure}
 use Rattle.anchorage.specs.Rules.{straight, rules}
-use Rattle.anchorage.proofs.Asking.{Longer, Stricter}
+use Rattle.anchorage.proofs.Asking.{Stricter}
 use Rattle.anchorage.proofs.Rising.{figure_mono}
 use Rattle.anchorage.proofs.Bounds.{figure_near}
 use Rattle.anchorage.proofs.Meeting.{rules_kept}
 use Rattle.book.specs.Meaning.{Above, Ordered, NearLaw, OrderLaw}
 use Rattle.book.proofs.Testing.{passes_on}
 use Rattle.bars.specs.declared.lines.BarLine.{BarLine}
-use Rattle.bars.specs.Details.{shape_of, detail_of, bar_of}
+use Rattle.bars.specs.Details.{detail_of, bar_of}
 use Rattle.bars.specs.Tests.{in_range, agrees, borne, test_of}
 use Rattle.bars.specs.Meaning.{AsksNoLess, bar_figure, bar_exact, bar_meets, bar_meaning}
 use Rattle.bars.specs.Passing.{truth, agreed, dia_tabled, fck_tabled, ranged}

@@ -1,5 +1,5 @@
 -- The test of a bar line. Assumes nothing.
-use Rattle.std.specs.Prelude.{ℕ, ◌*◌, Bool, cond, ◌&&◌, List, Result, ◌==◌, nat_le}
+use Rattle.std.specs.Prelude.{◌*◌, Bool, cond, ◌&&◌, List, Result, ◌==◌, nat_le}
 use Rattle.eurocode.specs.declared.Situation.{Situation}
 use Rattle.annex.specs.declared.numbers.Numbers.{Numbers}
 use Rattle.annex.specs.Numbers.{gs_of}

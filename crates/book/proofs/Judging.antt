@@ -1,8 +1,7 @@
 -- The mark of a line, and how lines in order are judged, by two meanings. Assumes nothing.
-use Rattle.std.proofs.Common.{◌≡◌, ℕ, ◌+◌, ◌-◌, ◌<◌, ◌≤◌, Bool, true, false, cond, Some, None, Option, sym, refl, ap, ◌∙◌, subst, ⊎_elim, arith, MatchOption}
+use Rattle.std.proofs.Common.{◌≡◌, ℕ, ◌+◌, ◌-◌, ◌≤◌, Bool, true, false, cond, Some, None, Option, sym, ap, ◌∙◌, subst, ⊎_elim, arith, MatchOption}
 use Rattle.std.proofs.lemmas.Bool.{both_ways, cases_order}
 use Rattle.eurocode.specs.declared.Situation.{Situation}
-use Rattle.measure.specs.Fractions.{Near}
 use Rattle.checklist.specs.Firsts.{Passes, FailsFirst, first_failed}
 use Rattle.checklist.proofs.Failing.{first_law}
 use Rattle.book.specs.Meaning.{Meaning, Above, IsMark, JudgedAbove, or_zero, passes, figure_of, meets_of, mark_of, judged}

@@ -1,5 +1,5 @@
 -- What the test of a line says. Assumes nothing.
-use Rattle.std.proofs.Common.{◌≡◌, ℕ, Bool, true, false, cond, List, length, is_ok, Some, None, Option, refl, ap, MatchOption}
+use Rattle.std.proofs.Common.{◌≡◌, ℕ, Bool, true, false, List, length, is_ok, Some, None, Option, refl, ap, MatchOption}
 use Rattle.std.proofs.lemmas.Bool.{both_ways}
 use Rattle.checklist.specs.Firsts.{Passes, FailsFirst, first_failed, test_at}
 use Rattle.checklist.proofs.Failing.{first_law}

@@ -1,7 +1,6 @@
 -- The lengths of the handbook grow with the stress, the share and the diameter. Assumes nothing.
-use Rattle.std.proofs.Common.{◌≡◌, ℕ, ◌*◌, ◌<◌, ◌≤◌, min, Bool, true, false, cond, ◌&&◌, T, eqb, leb, List, [], ◌∷◌, is_ok, sym, refl, ap, ◌∙◌, subst, le_refl, arith}
+use Rattle.std.proofs.Common.{◌≡◌, ℕ, ◌*◌, ◌≤◌, min, Bool, true, cond, ◌&&◌, T, eqb, leb, List, [], ◌∷◌, is_ok, refl, ap, subst, le_refl, arith}
 use Rattle.std.proofs.lemmas.Bool.{and_parts, leb-true, le-leb}
-use Rattle.std.proofs.lemmas.Bool.Decides.{nat_tests}
 use Rattle.eurocode.specs.declared.Situation.TheVariants.{Persistent}
 use Rattle.eurocode.specs.Tables.{diameters, strengths, tabled}
 use Rattle.eurocode.proofs.Tabled as tables
@@ -16,7 +15,6 @@ use Rattle.anchorage.proofs.Rising.{figure_mono}
 use Rattle.checklist.specs.Firsts.{within}
 use Rattle.book.specs.Fields.{tested}
 use Rattle.book.proofs.Judging.{figure_passed}
-use Rattle.bars.specs.declared.lines.BarLine.{BarLine}
 use Rattle.bars.specs.Details.{detail_of, bar_of}
 use Rattle.bars.specs.Tests.{in_range, agrees, borne, test_of}
 use Rattle.bars.specs.Meaning.{bar_figure, bar_meaning}

@@ -1,7 +1,6 @@
 -- The lines of the handbook's tables and curves, and their lengths under the recommended annex. Assumes nothing.
 use Rattle.std.specs.Prelude.{◌≡◌, ℕ, ◌*◌, ◌≤◌, Bool, true, cond, ◌&&◌, Some, None, Option, ◌==◌, nat_le}
 use Rattle.eurocode.specs.declared.Situation.TheVariants.{Persistent}
-use Rattle.eurocode.specs.Sizes.{mm_of, fck_of}
 use Rattle.annex.specs.Numbers.{recommended}
 use Rattle.book.specs.Meaning.{figure_of}
 use Rattle.bars.specs.declared.lines.BarLine.{BarLine}

@@ -1,7 +1,7 @@
 -- How far a fraction lies above another, in thousand-millionths, and what the operations do to that. Assumes nothing.
-use Rattle.std.proofs.Common.{◌≡◌, ℕ, ◌+◌, ◌-◌, ◌*◌, ◌<◌, ◌≤◌, min, max, Bool, true, false, cond, refl, le_trans, le_refl, mul-le-mul_right, mul-le-mul, lt_of_mul-lt-mul_right, mul-le-mul_left, mul-pos, le_of_mul-le-mul_right, arith}
+use Rattle.std.proofs.Common.{ℕ, ◌+◌, ◌*◌, ◌<◌, ◌≤◌, max, Bool, true, false, cond, mul-le-mul_right, mul-le-mul_left, le_of_mul-le-mul_right, arith}
 use native.Mathlib.Nat.{le-max_left, le-max_right}
-use Rattle.measure.specs.Fractions.{Fraction, ◌over◌, whole, tenths, ◌·◌, ◌plus◌, ◌⊔◌, ◌≼◌, ◌≺◌, Near}
+use Rattle.measure.specs.Fractions.{Fraction, ◌over◌, ◌·◌, ◌plus◌, ◌⊔◌, ◌≼◌, Near}
 use Rattle.measure.specs.Rounding.{ceiling, ths, rounded}
 use Rattle.measure.proofs.Ceiling.{ceiling_reaches, ceiling_near}
 use Rattle.measure.proofs.Order.{≼_refl, ·-mono, ⊔-mono, max_mul_le}

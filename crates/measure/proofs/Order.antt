@@ -1,5 +1,5 @@
 -- The order of fractions, and which operations keep it. Assumes nothing.
-use Rattle.std.proofs.Common.{◌≡◌, ℕ, ◌+◌, ◌-◌, ◌*◌, ◌<◌, ◌≤◌, min, max, Bool, true, false, cond, not, T, ltb, leb, sym, refl, ap, ◌∙◌, le_trans, le_of_eq, le_refl, mul-le-mul_right, mul_comm, mul-le-mul, le_antisymm, mul-le-mul_left, mul-pos, one-mul, le_of_mul-le-mul_right, arith, lit<, lit≤, leb→le}
+use Rattle.std.proofs.Common.{◌≡◌, ℕ, ◌-◌, ◌*◌, ◌<◌, ◌≤◌, max, Bool, true, false, cond, not, T, ltb, leb, sym, refl, ap, ◌∙◌, le_trans, le_of_eq, le_refl, mul-le-mul_right, mul_comm, mul-le-mul, le_antisymm, mul-le-mul_left, mul-pos, one-mul, le_of_mul-le-mul_right, arith, lit<, lit≤, leb→le}
 use native.Mathlib.Nat.{mul-sub, le-max_left, le-max_right, max-le}
 use Rattle.std.proofs.lemmas.Bool.Decides.{nat_tests}
 use lib.Dec.{nleb→lt}

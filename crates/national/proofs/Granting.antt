@@ -1,14 +1,14 @@
 -- An annex text is granted exactly where it says one line of numbers that keep both laws. Assumes nothing.
-use Rattle.std.proofs.Common.{◌≡◌, ℕ, ◌+◌, List, [], ◌∷◌, length, IfErr, Some, None, Ok, Err, Option, Result, sym, refl, ap, ◌∙◌, subst, inl, inr, arith, MatchResult}
+use Rattle.std.proofs.Common.{◌≡◌, ℕ, List, [], ◌∷◌, length, IfErr, Some, None, Ok, Err, Option, Result, sym, refl, ap, ◌∙◌, subst, inl, inr, arith, MatchResult}
 use Rattle.std.specs.Option as options
 use Rattle.refusal.specs.declared.Refusal.{Refusal}
-use Rattle.refusal.specs.declared.Refusal.TheVariants.{AnnexLines, AnnexRange, Falling}
+use Rattle.refusal.specs.declared.Refusal.TheVariants.{AnnexRange, Falling}
 use Rattle.refusal.specs.Refusals.{at_line, on_err, on_ok}
 use Rattle.text.specs.Texts.{Bytes, Parts, parts_by_line}
 use Rattle.text.specs.Tokens.{later_lines}
-use Rattle.reader.specs.Lines.{header_of, line_of, line_then, lines_from, lines_under, read_of}
+use Rattle.reader.specs.Lines.{header_of, line_of, line_then, lines_from, lines_under}
 use Rattle.reader.specs.Names.{WellNamed}
-use Rattle.reader.specs.Says.{Says, AllUnder, Under}
+use Rattle.reader.specs.Says.{Says, AllUnder}
 use Rattle.reader.proofs.Naming.{well_named}
 use Rattle.reader.proofs.Saying.{read_says, says_read, under_ok, line_ok}
 use Rattle.annex.specs.declared.numbers.Numbers.{Numbers}

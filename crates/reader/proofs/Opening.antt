@@ -8,7 +8,7 @@ use Rattle.text.specs.Texts.{Bytes, Parts, is_text, parts_by_line}
 use Rattle.text.specs.Tokens.{this_line, later_lines}
 use Rattle.text.proofs.Cutting.{lines_le}
 use Rattle.reader.specs.Names.{places_of}
-use Rattle.reader.specs.Lines.{header_of, lines_under, lines_from, read_of}
+use Rattle.reader.specs.Lines.{lines_under, lines_from, read_of}
 
 -- what a lexer is opened on
 abbrev opens : Bytes → Result (List Parts) Refusal

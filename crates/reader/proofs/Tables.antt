@@ -1,11 +1,10 @@
 -- The names of a header, one by one, and the table of their places. Assumes nothing.
-use Rattle.std.proofs.Common.{◌≡◌, ℕ, zero, suc, ◌+◌, ◌<◌, ◌≤◌, Bool, true, false, cond, not, ◌&&◌, eqb, ◌≢◌, List, [], ◌∷◌, ◌++◌, map, length, get_or, drop, set, replicate, Some, None, Ok, Err, Option, Result, sym, refl, ap, ◌∙◌, subst, ⊎_elim, arith}
+use Rattle.std.proofs.Common.{◌≡◌, ℕ, zero, suc, ◌+◌, ◌<◌, ◌≤◌, true, false, cond, not, ◌&&◌, eqb, List, [], ◌∷◌, ◌++◌, map, length, get_or, drop, set, replicate, Some, None, Ok, Err, sym, refl, ap, ◌∙◌, subst, ⊎_elim, arith}
 use Rattle.std.specs.Str.{bytes_eq}
 use Rattle.std.proofs.lemmas.Slice.Eq.{bytes_eq-Decides}
 use Rattle.std.proofs.lemmas.List.{at_drop_more, same_lists, get_or-map, get_or-set_same, get_or-set_other, length-set, length-map, length_push}
-use Rattle.std.proofs.lemmas.Bool.{cases_Bool, cases_eq, cond-true, cond-false, cond_both, and_from, and_left, and_right, eq-eqb, ne_eqb, not_from_true, not_from_false, not-true, not-false, eqb-true, and_parts}
+use Rattle.std.proofs.lemmas.Bool.{cases_Bool, cases_eq, cond-true, cond-false, cond_both, and_from, and_left, and_right, eq-eqb, ne_eqb, not_from_true, not_from_false, not-true, and_parts}
 use Rattle.text.specs.Tokens.{this_line, later_lines, next_part, after_next}
-use Rattle.refusal.specs.declared.Refusal.{Refusal}
 use Rattle.refusal.specs.declared.Refusal.TheVariants.{Name, Missing}
 use Rattle.text.specs.Texts.{Bytes, Parts}
 use Rattle.reader.specs.Names.{Unlike, place_from, place_in, stands, all_placed, places_from, places_of}

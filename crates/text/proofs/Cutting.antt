@@ -1,14 +1,14 @@
 -- A text cut at its line feeds and semicolons: the steps of the lexer. Assumes nothing.
 use Rattle.std.proofs.Common.{◌≡◌, ℕ, suc, ◌+◌, ◌-◌, ◌<◌, ◌≤◌, Bool, true, false, cond, not, eqb, List, [], ◌∷◌, ◌++◌, map, length, get_or, take, drop, is_some, Some, None, Option, sym, refl, ap, ◌∙◌, subst, ⊎_elim, arith, Bor}
 use Rattle.std.proofs.ByRecursion.{All-from_get_or}
-use Rattle.std.proofs.lemmas.List.{at_drop_more, at_drop_all, take-append-drop, take_rest, drop_more, get_or-take, length-take-le, length-map}
+use Rattle.std.proofs.lemmas.List.{at_drop_more, take-append-drop, take_rest, drop_more, get_or-take, length-take-le, length-map}
 use Rattle.std.proofs.lemmas.Bool.{cases_Bool, cond-true, cond-false, cond_both, ne_eqb, eq-eqb, true≢false, false≢true}
 use Rattle.std.specs.Option.{option_map}
 use Rattle.text.specs.declared.tokens.Lexer.{Lexer}
 use Rattle.text.specs.declared.tokens.Position.{Position}
 use Rattle.text.specs.declared.tokens.Position.TheVariants as position
 use Rattle.text.specs.Texts.{Bytes, Parts, on_first, between, lines_of, parts_of, parts_by_line, Lacks, line_feeds}
-use Rattle.text.specs.Tokens.{Lexeme, name, value, Gives, parts_behind, in_line, lines_from, ahead, this_line, later_lines, next_part, after_next}
+use Rattle.text.specs.Tokens.{Lexeme, name, value, Gives, parts_behind, in_line, lines_from, ahead, this_line, next_part, after_next}
 
 -- no s below i is no s in the front of i bytes
 pub lacks_front : (bs : Bytes) (i s : ℕ) → i ≤ length bs → ((k : ℕ) → k < i → get_or bs k 0 ≡ s → ⊥) → Lacks s (take i bs)

@@ -1,10 +1,10 @@
 -- Lines and parts joined again are the text, and a text that was joined is cut into its lines and parts. Assumes nothing.
-use Rattle.std.proofs.Common.{◌≡◌, ℕ, zero, suc, ◌+◌, ◌-◌, ◌<◌, ◌≤◌, true, false, cond, eqb, ltb, List, [], ◌∷◌, ◌++◌, map, length, get_or, sym, refl, ap, ◌∙◌, subst, ⊎_elim, arith}
+use Rattle.std.proofs.Common.{◌≡◌, ℕ, suc, ◌-◌, ◌<◌, ◌≤◌, true, false, eqb, ltb, List, [], ◌∷◌, ◌++◌, map, length, get_or, sym, refl, ap, ◌∙◌, subst, ⊎_elim, arith}
 use Rattle.std.proofs.ByRecursion.{All-append}
 use Rattle.std.proofs.lemmas.List.{append-nil, append_assoc, length_push, get_or_push}
-use Rattle.std.proofs.lemmas.Bool.{cases_Bool, cond-true, cond-false, eqb-true, eqb-false, ne_eqb, and_right, and_parts, and_from, eq-eqb, le-leb, lt-ltb, false≢true}
-use Rattle.std.specs.List.{flat_map, AllByRecursion}
-use Rattle.text.specs.Texts.{Bytes, Parts, is_text, on_first, between, lines_of, parts_of, parts_by_line, part_text, line_text, text_of, Lacks, Plain, PlainLine}
+use Rattle.std.proofs.lemmas.Bool.{cases_Bool, cond-true, cond-false, eqb-true, ne_eqb, and_right, and_parts, and_from, eq-eqb, le-leb, lt-ltb, false≢true}
+use Rattle.std.specs.List.{AllByRecursion}
+use Rattle.text.specs.Texts.{Bytes, Parts, is_text, on_first, lines_of, parts_of, parts_by_line, part_text, line_text, text_of, Lacks, Plain, PlainLine}
 use Rattle.text.proofs.Cutting.{between_cut, between_whole, lines_cut}
 
 pub no_text : (bs : Bytes) → (0 < length bs → get_or bs (length bs - 1) 0 ≡ 10 → ⊥) → false ≡ is_text bs

@@ -8,7 +8,6 @@ use Rattle.annex.specs.Numbers.{recommended}
 use Rattle.book.specs.declared.faults.LineFault.{LineFault}
 use Rattle.book.specs.declared.faults.LineFault.TheVariants.{Overstressed}
 use Rattle.book.specs.Meaning.{Meaning, judged}
-use Rattle.bars.specs.declared.lines.BarLine.{BarLine}
 use Rattle.bars.specs.Lines.{line_of}
 use Rattle.bars.specs.Meaning.{bar_meaning}
 

@@ -1,4 +1,4 @@
-use Rattle.std.proofs.Common.{◌≡◌, ℕ, ◌≤◌, min, List, length, Ok, Err, Result, sym, ap, ◌∙◌, subst}
+use Rattle.std.proofs.Common.{◌≡◌, ℕ, ◌≤◌, min, List, length, Ok, Result, sym, ap, ◌∙◌, subst}
 use Rattle.refusal.specs.declared.Refusal.{Refusal}
 use Rattle.writer.specs.Wrote.{laid_over}
 use Rattle.annex.specs.declared.numbers.Numbers.{Numbers}

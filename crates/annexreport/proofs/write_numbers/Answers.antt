@@ -1,4 +1,4 @@
-use Rattle.std.proofs.Common.{◌+◌, ◌-◌, [], ◌∷◌, ◌++◌, decimal, ap, ◌∙◌}
+use Rattle.std.proofs.Common.{[], ◌∷◌, decimal}
 use Rattle.text.specs.Texts.{line_text}
 use Rattle.writer.proofs.Writing.{going_none, going_more, going_all, wrote_as}
 use Rattle.annexreport.specs.Report.{numbers_text}

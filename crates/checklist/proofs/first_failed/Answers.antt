@@ -1,6 +1,6 @@
-use Rattle.std.proofs.Common.{true, false, length, Some, None, sym, ◌∙◌, subst, MatchOption}
+use Rattle.std.proofs.Common.{true, false, length, sym, ◌∙◌, subst, MatchOption}
 use Rattle.std.proofs.lemmas.List.{get_or_default}
-use Rattle.checklist.specs.Firsts.{Passes, FailsFirst, first_failed, test_at}
+use Rattle.checklist.specs.Firsts.{Passes, FailsFirst, test_at}
 use Rattle.checklist.proofs.Failing.{first_law, first_more, first_stops, first_all}
 use Rattle.checklist.proofs.first_failed.Goals as goal
 

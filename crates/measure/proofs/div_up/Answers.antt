@@ -1,4 +1,4 @@
-use Rattle.std.proofs.Common.{◌≡◌, ◌<◌, sym, ap, ◌∙◌, subst, arith}
+use Rattle.std.proofs.Common.{◌<◌, sym, ap, ◌∙◌, subst, arith}
 use Rattle.measure.specs.Rounding.{Least, ceiling}
 use Rattle.measure.proofs.Ceiling.{ceiling_is, ceiling_law, ceiling_zero}
 use Rattle.measure.proofs.div_up.Goals as goal

@@ -1,4 +1,4 @@
-use Rattle.std.proofs.Common.{◌≡◌, ◌<◌, ◌≤◌, sym, refl, ap, ◌∙◌, arith}
+use Rattle.std.proofs.Common.{◌<◌, ◌≤◌, sym, refl, ap, ◌∙◌, arith}
 use Rattle.measure.specs.Rounding.{ths, ceiling}
 use Rattle.anchorage.proofs.Computing.{α6_low, α6_second, α6_third, α6_high}
 use Rattle.bars.proofs.factors.alpha6.Goals as goal

@@ -1,4 +1,4 @@
-use Rattle.std.proofs.Common.{◌-◌, ◌*◌, ◌≤◌, ◌∙◌, mul-le-mul, mul-pos, arith}
+use Rattle.std.proofs.Common.{◌≤◌, ◌∙◌, mul-le-mul, mul-pos, arith}
 use Rattle.anchorage.proofs.Computing.{surplus_code}
 use Rattle.bars.proofs.factors.by_surplus.Goals as goal
 

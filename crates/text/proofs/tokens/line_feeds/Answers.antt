@@ -1,4 +1,4 @@
-use Rattle.std.proofs.Common.{drop, ◌∙◌, arith}
+use Rattle.std.proofs.Common.{arith}
 use Rattle.std.proofs.lemmas.List.{at_drop_all}
 use Rattle.text.specs.Texts.{line_feeds}
 use Rattle.text.proofs.Cutting.{feed_more, feed_other, feeds_le}

@@ -1,4 +1,4 @@
-use Rattle.std.proofs.Common.{◌≡◌, ℕ, ◌<◌, [], length, get_or}
+use Rattle.std.proofs.Common.{◌≡◌, ℕ, ◌<◌, [], get_or}
 use Rattle.reader.proofs.headers.placing.find.Given as goal
 
 abbrev pub invariant-loop-field : goal.invariant-loop-field

@@ -1,5 +1,5 @@
-use Rattle.std.proofs.Common.{cond, sym, refl, ap, ◌∙◌}
-use Rattle.std.proofs.lemmas.Bool.{cond-true, cond-false}
+use Rattle.std.proofs.Common.{sym, refl, ap, ◌∙◌}
+use Rattle.std.proofs.lemmas.Bool.{cond-true}
 use Rattle.text.specs.Texts.{parts_by_line}
 use Rattle.text.proofs.Joining.{text_joined, text_apart}
 use Rattle.text.proofs.tokens.Lexer.open.Goals as goal

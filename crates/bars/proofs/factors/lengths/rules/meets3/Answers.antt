@@ -1,6 +1,6 @@
-use Rattle.std.proofs.Common.{◌≡◌, ◌+◌, ◌*◌, ◌≤◌, Bool, true, false, ◌||◌, sym, refl, ap, ◌∙◌, ap₂, le_refl, mul-le-mul, arith}
+use Rattle.std.proofs.Common.{◌+◌, ◌*◌, ◌≤◌, ◌||◌, ap, ◌∙◌, le_refl, mul-le-mul, arith}
 use Rattle.measure.specs.Rounding.{reaches}
-use Rattle.anchorage.specs.Rules.{rule3, straight, least_mandrel}
+use Rattle.anchorage.specs.Rules.{rule3, least_mandrel}
 use Rattle.anchorage.proofs.Computing.{mandrel_code}
 use Rattle.bars.proofs.factors.lengths.rules.meets3.Goals as goal
 

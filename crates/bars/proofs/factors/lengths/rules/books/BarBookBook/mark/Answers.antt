@@ -1,5 +1,4 @@
-use Rattle.std.proofs.Common.{◌≡◌, length, Some, None, ap, ◌∙◌}
-use Rattle.anchorage.specs.Rules.{rules}
+use Rattle.std.proofs.Common.{length, ap, ◌∙◌}
 use Rattle.checklist.specs.Firsts.{first_failed, test_at}
 use Rattle.book.specs.Meaning.{or_zero}
 use Rattle.bars.proofs.Answering.{mark_answer, mark_failed}
