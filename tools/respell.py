@@ -124,7 +124,7 @@ wrote-full wrote_full; wrote-room wrote_room; zero-writes zero_writes; zeroAlone
 """
 
 NEW = dict(pair.split() for pair in PAIRS.replace("\n", " ").split(";") if pair.strip())
-NAME = re.compile(r"[^\s(){}\[\];,.:\"⌜⌝⟦⟧]+")
+NAME = re.compile(r"[^`\s(){}\[\];,.:\"⌜⌝⟦⟧]+")
 # a string or a comment of a source file, kept as it is
 KEPT = re.compile(r"b?\"(?:[^\"\\]|\\.)*\"|//[^\n]*")
 QUOTED = re.compile(r"`[^`\n]+`")
