@@ -1,5 +1,5 @@
 -- The eight rules of a bar (EN 1992-1-1, 8.2, 8.3, 8.4 and 8.7), as tests. A rule that does not apply is met. Assumes nothing.
-use Rattle.std.specs.Prelude.{◌+◌, ◌*◌, Bool, true, false, ◌&&◌, ◌||◌, leb, List, [], ◌∷◌, nat_eq, nat_le}
+use Rattle.std.specs.Prelude.{◌+◌, ◌*◌, Bool, true, false, ◌&&◌, ◌||◌, List, [], ◌∷◌, nat_eq, nat_le}
 use Rattle.measure.specs.Fractions.{Fraction, ◌over◌, ◌·◌, ◌÷◌, ◌plus◌}
 use Rattle.measure.specs.Rounding.{reaches}
 use Rattle.anchorage.specs.declared.Bar.{Bar}
@@ -45,15 +45,15 @@ rule3 d b = straight d.shape || reaches b.mandrel (least_mandrel b)
 
 -- laps in tension in several layers: at most half of the bars
 abbrev pub rule4 : Detail → Bar → Bool
-rule4 d b = tension_lap d && leb 2 b.layers ⇒ leb b.share 50
+rule4 d b = tension_lap d && nat_le 2 b.layers ⇒ nat_le b.share 50
 
 -- laps: clear of each other by 2φ and 20
 abbrev pub rule5 : Detail → Bar → Bool
-rule5 d b = d.lap ⇒ leb (2 * φ b) b.apart && nat_le 20 b.apart
+rule5 d b = d.lap ⇒ nat_le (2 * φ b) b.apart && nat_le 20 b.apart
 
 -- laps in tension of bars from 20 mm, a quarter lapped or more: transverse steel as much as one bar
 abbrev pub rule6 : Detail → Bar → Bool
-rule6 d b = tension_lap d && (nat_le 20 (φ b) && nat_le 25 b.share) ⇒ leb b.area b.trans
+rule6 d b = tension_lap d && (nat_le 20 (φ b) && nat_le 25 b.share) ⇒ nat_le b.area b.trans
 
 -- laps in tension of bars from 20 mm, more than half lapped and at most 10φ apart: links or U bars
 abbrev pub rule7 : Detail → Bar → Bool
