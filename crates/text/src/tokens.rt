@@ -5,7 +5,7 @@ ghost use Rattle.refusal.specs.declared.Refusal.TheVariants.{Text};
 ghost use Rattle.refusal.specs.Refusals.{on_ok};
 ghost use Rattle.std.specs.List.{AllByRecursion};
 ghost use Rattle.text.specs.Texts.{Parts, is_text, parts_of, parts_by_line, line_feeds, text_of, PlainLine, Cuts};
-ghost use Rattle.text.specs.Tokens.{ahead, lexeme, Gives, parts_behind, in_line, this_line, next_part, after_next};
+ghost use Rattle.text.specs.Tokens.{ahead, lexeme, Gives, parts_behind, in_line, this_line, next_part, after_next, still_in_names};
 
 use refusal::Refusal;
 
@@ -137,6 +137,7 @@ impl<'t> Lexer<'t> {
     pub fn next_part(&mut self) -> Option<&'t [u8]>
         ensures part { option_map (λ x. x.now) result ≡ next_part (ahead self.old) }
         ensures after { ahead self.new ≡ after_next (ahead self.old) }
+        ensures names { self.new.in_names ≡ still_in_names self.old.in_names (ahead self.old) }
     {
         match self.next() {
             Some(Token::Name(part) | Token::Value(part)) => Some(part),
