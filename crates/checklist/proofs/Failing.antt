@@ -1,7 +1,10 @@
 -- The first failure of tests in order. Assumes nothing.
-use Rattle.std.proofs.Common.{◌≡◌, ℕ, zero, suc, ◌+◌, ◌-◌, ◌<◌, ◌≤◌, Bool, true, false, cond, not, is_some, Some, None, Decides, Option, sym, refl, ap, ◌∙◌, ⊎_elim, arith, MatchOption}
+use Rattle.std.specs.List.{position, position_from}
+use Rattle.std.specs.Option.{option_map}
+use Rattle.std.proofs.lemmas.Iterator.Adapters.{position_from-zero}
+use Rattle.std.proofs.Common.{List, [], ◌∷◌, length, slice_index_or, ◌≡◌, ℕ, zero, suc, ◌+◌, ◌-◌, ◌<◌, ◌≤◌, Bool, true, false, cond, not, is_some, Some, None, Decides, Option, sym, refl, ap, ◌∙◌, ⊎_elim, arith, MatchOption}
 use Rattle.std.proofs.lemmas.Bool.{both_ways, cases_order}
-use Rattle.checklist.specs.Firsts.{Passes, FailsFirst, first_failed, FirstLaw}
+use Rattle.checklist.specs.Firsts.{Passes, FailsFirst, first_failed, FirstLaw, test_at}
 
 -- what holds at i and behind it
 pass_from : (test : ℕ → Bool) (i : ℕ) → test i ≡ true → (n : ℕ) → ((k : ℕ) → i + 1 ≤ k → k < n → test k ≡ true) → (k : ℕ) → i ≤ k → k < n → test k ≡ true
@@ -29,13 +32,18 @@ none_decides test i n = go (first_failed test i n) (first_law test i n)
     go None all = (λ _. all, λ _. refl)
     go (Some f) first = (λ e. absurd (both_ways false refl e), λ all. absurd (both_ways (test (f - 1)) first.fails (all (f - 1) (omega (arith, first.from)) (omega (arith, first.from, first.upto)))))
 
--- a look for the first failure, place by place up to `end`
-module _ (test : ℕ → Bool) (i end : ℕ) where
-  pub first_more : i < end → test i ≡ true → first_failed test i (end - i) ≡ first_failed test (i + 1) (end - (i + 1))
-  first_more h t = let e : end - i ≡ suc (end - (i + 1)) = omega arith in ap (first_failed test i) e ∙ ap (λ b. cond b (first_failed test (i + 1) (end - (i + 1))) (Some (i + 1))) t
+-- the first failure in a list, which holds the tests from i on
+first_in_list : (test : ℕ → Bool) (i : ℕ) (ts : List Bool) → ((k : ℕ) → k < length ts → test (i + k) ≡ slice_index_or ts k true) → option_map (λ k. k + 1) (position_from (λ t. not t) i ts) ≡ first_failed test i (length ts)
+first_in_list test i [] h = refl
+first_in_list test i (t ∷ ts) h =
+    go (first_in_list test (i + 1) ts (λ k l. let e : i + 1 + k ≡ i + suc k = omega arith in ap test e ∙ h (suc k) (omega (arith, l)))) t here
+  where
+    here : test i ≡ t
+    here = let e : i ≡ i + 0 = omega arith in ap test e ∙ h 0 (omega arith)
 
-  pub first_stops : i < end → test i ≡ false → first_failed test i (end - i) ≡ Some (i + 1)
-  first_stops h t = let e : end - i ≡ suc (end - (i + 1)) = omega arith in ap (first_failed test i) e ∙ ap (λ b. cond b (first_failed test (i + 1) (end - (i + 1))) (Some (i + 1))) t
+    go : option_map (λ k. k + 1) (position_from (λ t. not t) (i + 1) ts) ≡ first_failed test (i + 1) (length ts) → (b : Bool) → test i ≡ b → option_map (λ k. k + 1) (cond (not b) (Some i) (position_from (λ t. not t) (i + 1) ts)) ≡ cond (test i) (first_failed test (i + 1) (length ts)) (Some (i + 1))
+    go rest true e = rest ∙ sym (ap (λ b. cond b (first_failed test (i + 1) (length ts)) (Some (i + 1))) e)
+    go rest false e = sym (ap (λ b. cond b (first_failed test (i + 1) (length ts)) (Some (i + 1))) e)
 
-  pub first_all : end ≤ i → first_failed test i (end - i) ≡ None
-  first_all h = let e : end - i ≡ 0 = omega arith in ap (first_failed test i) e
+pub first_position : (ts : List Bool) → option_map (λ k. k + 1) (position (λ t. not t) ts) ≡ first_failed (test_at ts) 0 (length ts)
+first_position ts = ap (option_map (λ k. k + 1)) (position_from-zero (λ t. not t) ts) ∙ first_in_list (test_at ts) 0 ts (λ k h. let e : 0 + k ≡ k = omega arith in ap (test_at ts) e)

@@ -1,6 +1,7 @@
 -- Numbers that stand in a table, and rules between any two of them, proved by tests that antt computes. Assumes nothing.
-use Rattle.std.proofs.Common.{◌≡◌, ℕ, zero, suc, ◌+◌, ◌<◌, ◌≤◌, Bool, true, false, cond, not, ◌&&◌, ◌||◌, T, eqb, ltb, leb, List, [], ◌∷◌, length, get_or, drop, is_some, Some, None, sym, refl, ap, ◌∙◌, subst, ⊎_elim, add-one, arith, eqb→eq, drop-cons}
-use Rattle.std.proofs.lemmas.List.{drop_all}
+use Rattle.std.specs.List.{position, position_from}
+use Rattle.std.proofs.lemmas.Iterator.Adapters.{position_from-zero}
+use Rattle.std.proofs.Common.{◌≡◌, ℕ, zero, suc, ◌+◌, ◌<◌, ◌≤◌, Bool, true, false, cond, not, ◌&&◌, ◌||◌, T, eqb, ltb, leb, List, [], ◌∷◌, length, get_or, is_some, Some, None, sym, refl, ap, ◌∙◌, subst, ⊎_elim, arith, eqb→eq}
 use Rattle.std.proofs.lemmas.Bool.{and_parts, cases_order, eq-eqb, leb-true}
 use Rattle.std.proofs.lemmas.Bool.Decides.{nat_tests, Decides-below_and, Decides-eqb}
 use Rattle.eurocode.specs.Tables.{tabled, place, beside}
@@ -97,19 +98,25 @@ module _ (xs : List ℕ) (t : apart xs (length xs) ≡ true) (i : ℕ) (h : i < 
   pub beside_row : (values : List ℕ) → beside xs values (get_or xs i 0) ≡ get_or values i 0
   beside_row values = beside_tabled xs values (get_or xs i 0) (tabled_row xs i h) ∙ ap (λ j. get_or values j 0) place_row
 
--- a look through a table, row by row: x is there, is further on, or is not in it
-module _ (x : ℕ) (xs : List ℕ) (i : ℕ) where
-  pub found_here : i < length xs → get_or xs i 0 ≡ x → (tabled x (drop i xs) ≡ true) × (place x (drop i xs) ≡ 0)
-  unfolding tabled place
-  found_here h e = rw (drop-cons xs i 0) (grind (arith, nat_tests), grind (arith, nat_tests))
+-- the first that equals x stands at x's place
+position_is : (x i : ℕ) (xs : List ℕ) → position_from (λ y. eqb y x) i xs ≡ cond (tabled x xs) (Some (i + place x xs)) None
+unfolding tabled place
+position_is x i [] = refl
+position_is x i (y ∷ ys) = go (position_is x (i + 1) ys) (eqb y x) (eqb x y) (let e : eqb y x ≡ eqb x y = grind (arith, nat_tests) in e)
+  where
+    later : (b : Bool) → cond b (Some (i + 1 + place x ys)) None ≡ cond b (Some (i + suc (place x ys))) None
+    later true = let e : i + 1 + place x ys ≡ i + suc (place x ys) = omega arith in ap Some e
+    later false = refl
 
-  pub found_later : i < length xs → (get_or xs i 0 ≡ x → ⊥) → (tabled x (drop i xs) ≡ tabled x (drop (i + 1) xs)) × (place x (drop i xs) ≡ suc (place x (drop (i + 1) xs)))
-  unfolding tabled place
-  found_later h e = rw (add-one, drop-cons xs i 0) (grind (arith, nat_tests), grind (arith, nat_tests))
+    go : position_from (λ y. eqb y x) (i + 1) ys ≡ cond (tabled x ys) (Some (i + 1 + place x ys)) None → (b c : Bool) → b ≡ c → cond b (Some i) (position_from (λ y. eqb y x) (i + 1) ys) ≡ cond (c || tabled x ys) (Some (i + cond c 0 (suc (place x ys)))) None
+    go rest true c e = subst (λ b. Some i ≡ cond (b || tabled x ys) (Some (i + cond b 0 (suc (place x ys)))) None) e (let e : i ≡ i + 0 = omega arith in ap Some e)
+    go rest false c e = subst (λ b. position_from (λ y. eqb y x) (i + 1) ys ≡ cond (b || tabled x ys) (Some (i + cond b 0 (suc (place x ys)))) None) e (rest ∙ later (tabled x ys))
 
-  pub found_nowhere : length xs ≤ i → tabled x (drop i xs) ≡ false
-  unfolding tabled
-  found_nowhere h = rw (drop_all i xs h) refl
+search_is : (x : ℕ) (xs : List ℕ) → position (λ y. eqb y x) xs ≡ cond (tabled x xs) (Some (place x xs)) None
+search_is x xs = position_from-zero (λ y. eqb y x) xs ∙ position_is x 0 xs ∙ (let e : 0 + place x xs ≡ place x xs = omega arith in ap (λ k. cond (tabled x xs) (Some k) None) e)
+
+pub searched : (x : ℕ) {read xs : List ℕ} → read ≡ xs → position (λ y. eqb y x) read ≡ cond (tabled x xs) (Some (place x xs)) None
+searched x {read} {xs} e = ap (position (λ y. eqb y x)) e ∙ search_is x xs
 
 -- what a search of a table says: at what row x stands, or that it is not in it
 pub found : (x row : ℕ) (xs : List ℕ) → Some row ≡ cond (tabled x xs) (Some (place x xs)) None → (tabled x xs ≡ true) × (row < length xs) × (get_or xs row 0 ≡ x)

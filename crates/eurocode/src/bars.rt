@@ -1,28 +1,32 @@
 // What the table says of a bar's diameter.
-ghost use Rattle.std.specs.Prelude.{◌≡◌, ℕ, ◌*◌, ◌<◌, T, if◌then◌else◌, Some, None};
-ghost use Rattle.std.specs.Option.{option_map};
+ghost use Rattle.std.specs.Prelude.{◌≡◌, ℕ, ◌*◌, ◌<◌, T};
 ghost use Rattle.eurocode.specs.Tables.{diameters, tabled, place, area_of};
 ghost use Rattle.eurocode.specs.Sizes.{mm_of};
 
 use crate::Diameter;
-use crate::tables::{AREAS, DIAMETERS, place_in};
+use crate::tables::{AREAS, DIAMETERS, TabledSize};
+
+impl TabledSize for Diameter {
+    ghost table = { diameters };
+
+    ghost number = { λ d. mm_of d };
+
+    #[tactic(auto, unfolding(crate::specs::Tables::diameters))]
+    fn table() -> &'static [u32] {
+        &DIAMETERS
+    }
+
+    #[tactic(auto, unfolding(crate::specs::Tables::diameters, crate::specs::Sizes::mm_of))]
+    fn at_row(row: usize) -> Option<Diameter> {
+        if row < DIAMETERS.len() {
+            Some(Diameter { row })
+        } else {
+            None
+        }
+    }
+}
 
 impl Diameter {
-    // The diameter of so many mm, if it is tabled.
-    pub fn new(mm: u32) -> Option<Diameter>
-        ensures { option_map mm_of result ≡ (if tabled mm diameters then Some mm else None) }
-    {
-        let row = place_in(mm, &DIAMETERS)?;
-        Some(Diameter { row })
-    }
-
-    // Whether so many mm are tabled.
-    pub fn is_tabled(mm: u32) -> bool
-        ensures { result ≡ tabled mm diameters }
-    {
-        place_in(mm, &DIAMETERS).is_some()
-    }
-
     // In mm.
     pub fn mm(self) -> u32
         ensures value { result ≡ mm_of self }

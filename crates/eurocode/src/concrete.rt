@@ -1,28 +1,32 @@
 // What the table says of a concrete's strength.
-ghost use Rattle.std.specs.Prelude.{◌≡◌, ℕ, ◌<◌, T, if◌then◌else◌, Some, None};
-ghost use Rattle.std.specs.Option.{option_map};
+ghost use Rattle.std.specs.Prelude.{◌≡◌, ℕ, ◌<◌, T};
 ghost use Rattle.eurocode.specs.Tables.{strengths, tabled, fctk_of, fctm_of};
 ghost use Rattle.eurocode.specs.Sizes.{fck_of};
 
 use crate::Strength;
-use crate::tables::{FCTK, FCTM, STRENGTHS, place_in};
+use crate::tables::{FCTK, FCTM, STRENGTHS, TabledSize};
+
+impl TabledSize for Strength {
+    ghost table = { strengths };
+
+    ghost number = { λ s. fck_of s };
+
+    #[tactic(auto, unfolding(crate::specs::Tables::strengths))]
+    fn table() -> &'static [u32] {
+        &STRENGTHS
+    }
+
+    #[tactic(auto, unfolding(crate::specs::Tables::strengths, crate::specs::Sizes::fck_of))]
+    fn at_row(row: usize) -> Option<Strength> {
+        if row < STRENGTHS.len() {
+            Some(Strength { row })
+        } else {
+            None
+        }
+    }
+}
 
 impl Strength {
-    // The strength of so many MPa, if it is tabled.
-    pub fn new(fck: u32) -> Option<Strength>
-        ensures { option_map fck_of result ≡ (if tabled fck strengths then Some fck else None) }
-    {
-        let row = place_in(fck, &STRENGTHS)?;
-        Some(Strength { row })
-    }
-
-    // Whether so many MPa are tabled.
-    pub fn is_tabled(fck: u32) -> bool
-        ensures { result ≡ tabled fck strengths }
-    {
-        place_in(fck, &STRENGTHS).is_some()
-    }
-
     // In MPa.
     pub fn fck(self) -> u32
         ensures value { result ≡ fck_of self }

@@ -9,6 +9,9 @@ mod concrete;
 mod situations;
 mod tables;
 
+pub use situations::UnknownSituation;
+pub use tables::TabledSize;
+
 // A bar's diameter, by its row in the table, so that every value is a tabled one.
 #[derive(Clone, Copy)]
 pub struct Diameter {

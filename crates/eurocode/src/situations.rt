@@ -1,26 +1,33 @@
 // The numbers of the design situations.
 ghost use Rattle.std.specs.Prelude.{◌≡◌, Some};
-ghost use Rattle.eurocode.specs.Situations.{situation_of, number_of};
+ghost use Rattle.eurocode.specs.Situations.{number_of, situation_of, Numbers};
 
 use crate::Situation;
 
-impl Situation {
-    // The situation of this number: 1 is persistent, 2 accidental.
-    pub fn new(number: u32) -> Option<Situation>
-        ensures { result ≡ situation_of number }
-    {
+// A number that no design situation bears.
+#[derive(Clone, Copy, Debug, PartialEq, Eq)]
+pub struct UnknownSituation(pub u32);
+
+// 1 is persistent, 2 accidental.
+impl TryFrom<u32> for Situation {
+    type Error = UnknownSituation;
+
+    ghost try_from_gives = { Numbers };
+
+    fn try_from(number: u32) -> Result<Situation, UnknownSituation> {
         match number {
-            1 => Some(Situation::Persistent),
-            2 => Some(Situation::Accidental),
-            _ => None,
+            1 => Ok(Situation::Persistent),
+            2 => Ok(Situation::Accidental),
+            _ => Err(UnknownSituation(number)),
         }
     }
+}
 
-    pub fn number(self) -> u32
-        ensures value { result ≡ number_of self }
-        ensures back { situation_of result ≡ Some self }
-    {
-        match self {
+impl From<Situation> for u32 {
+    ghost from_gives = { λ s n. (n ≡ number_of s) × (situation_of n ≡ Some s) };
+
+    fn from(situation: Situation) -> u32 {
+        match situation {
             Situation::Persistent => 1,
             Situation::Accidental => 2,
         }

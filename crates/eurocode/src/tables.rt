@@ -1,6 +1,7 @@
-// The tables, and the search for a number in one.
-ghost use Rattle.std.specs.Prelude.{◌≡◌, if◌then◌else◌, Some, None};
-ghost use Rattle.eurocode.specs.Tables.{tabled, place};
+// The tables, and what is the same of all sizes that stand in one.
+ghost use Rattle.std.specs.Prelude.{◌≡◌, ℕ, List, length, if◌then◌else◌, Some, None, ◌==◌, nat_lt, slice_index, position};
+ghost use Rattle.std.specs.Option.{option_map};
+ghost use Rattle.eurocode.specs.Tables.{tabled};
 
 // Bars, in mm.
 pub const DIAMETERS: [u32; 11] = [6, 8, 10, 12, 14, 16, 20, 25, 28, 32, 40];
@@ -20,13 +21,38 @@ pub const FCTK: [u32; 9] = [11, 13, 15, 18, 20, 22, 25, 27, 29];
 pub const FCTM: [u32; 9] = [16, 19, 22, 26, 29, 32, 35, 38, 41];
 
 // The row of x in a table, from 0.
-pub fn place_in(x: u32, table: &[u32]) -> Option<usize>
-    ensures { result ≡ (if tabled x table.now then Some (place x table.now) else None) }
+fn place_in(x: u32, table: &[u32]) -> Option<usize>
+    ensures { result ≡ position (λ y. y == x) table.now }
 {
-    for (i, y) in table.iter().enumerate() {
-        if *y == x {
-            return Some(i);
-        }
+    table.iter().position(|y| *y == x)
+}
+
+// A size that stands in a table, so that every value is a tabled one.
+pub trait TabledSize: Copy {
+    ghost table: { List ℕ };
+
+    // The number that a size stands for.
+    ghost number: { Self → ℕ };
+
+    // The tabled numbers, in rising order.
+    fn table() -> &'static [u32]
+        ensures { result.now ≡ table };
+
+    // The size at a row of the table, from 0.
+    fn at_row(row: usize) -> Option<Self>
+        ensures { option_map number result ≡ (if nat_lt row (length table) then Some (slice_index table row) else None) };
+
+    // The size of a number, if it is tabled.
+    fn new(n: u32) -> Option<Self>
+        ensures { option_map number result ≡ (if tabled n table then Some n else None) }
+    {
+        Self::at_row(place_in(n, Self::table())?)
     }
-    None
+
+    // Whether a number is tabled.
+    fn is_tabled(n: u32) -> bool
+        ensures { result ≡ tabled n table }
+    {
+        place_in(n, Self::table()).is_some()
+    }
 }
