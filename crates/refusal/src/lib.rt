@@ -6,7 +6,7 @@ ghost use Rattle.std.specs.Prelude.{◌≡◌, ℕ};
 ghost use Rattle.refusal.specs.Refusals.{numbers_of, at_line, at_place, on_err};
 
 // A text line counts from 1, the names being line 1, and is 0 outside a text; places and fields count from 1.
-#[derive(Clone, Copy)]
+#[derive(Clone, Copy, Debug, PartialEq, Eq)]
 pub enum Refusal {
     // The rows for a sheet are none, or more than 256.
     Rows,
@@ -140,16 +140,10 @@ impl<T> Located for Result<T, Refusal> {
     ghost placed = { λ n r. on_err (at_place n) r };
 
     fn at_line(self, line: u32) -> Result<T, Refusal> {
-        match self {
-            Ok(x) => Ok(x),
-            Err(refusal) => Err(refusal.at_line(line)),
-        }
+        self.map_err(|refusal| refusal.at_line(line))
     }
 
     fn at_place(self, place: u32) -> Result<T, Refusal> {
-        match self {
-            Ok(x) => Ok(x),
-            Err(refusal) => Err(refusal.at_place(place)),
-        }
+        self.map_err(|refusal| refusal.at_place(place))
     }
 }
