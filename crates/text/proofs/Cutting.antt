@@ -1,8 +1,12 @@
 -- A text cut at its line feeds and semicolons: the steps of the lexer. Assumes nothing.
-use Rattle.std.proofs.Common.{◌≡◌, ℕ, suc, ◌+◌, ◌-◌, ◌<◌, ◌≤◌, Bool, true, false, cond, not, eqb, List, [], ◌∷◌, ◌++◌, map, length, get_or, take, drop, is_some, Some, None, Option, sym, refl, ap, ◌∙◌, subst, ⊎_elim, arith, Bor}
+use Rattle.std.proofs.Common.{◌≡◌, ℕ, ◌+◌, ◌-◌, ◌<◌, ◌≤◌, Bool, true, false, cond, not, eqb, ltb, ◌==◌, List, [], ◌∷◌, ◌++◌, map, length, get_or, take, drop, is_some, Some, None, Option, sym, refl, ap, ◌∙◌, subst, arith, Bor}
+use Rattle.std.specs.List.{position, position_or_len}
+use Rattle.std.proofs.lemmas.List.Recursion.{is_count_by}
+use Rattle.std.proofs.lemmas.List.Sums.{fails_before_first, passes_at_first, count_by-le-length}
+use Rattle.std.proofs.lemmas.Bool.Decides.{nat_tests}
 use Rattle.std.proofs.ByRecursion.{All-from_get_or}
-use Rattle.std.proofs.lemmas.List.{at_drop_more, take-append-drop, take_rest, drop_more, get_or-take, length-take-le, length-map}
-use Rattle.std.proofs.lemmas.Bool.{cases_Bool, cond-true, cond-false, cond_both, ne_eqb, eq-eqb, true≢false, false≢true}
+use Rattle.std.proofs.lemmas.List.{take-append-drop, take_rest, drop_more, get_or-take, length-take-le, length-map}
+use Rattle.std.proofs.lemmas.Bool.{cond-true, cond-false, ne_eqb, eqb-true, ltb-true, eq-eqb, true≢false, false≢true}
 use Rattle.std.specs.Option.{option_map}
 use Rattle.text.specs.declared.tokens.Lexer.{Lexer}
 use Rattle.text.specs.declared.tokens.Position.{Position}
@@ -16,15 +20,36 @@ lacks_front bs i s le none =
     let long : length (take i bs) ≡ i = length-take-le i bs le in
     All-from_get_or (λ b. b ≡ s → ⊥) (take i bs) 0 (λ k lt e. let less : k < i = omega arith in none k less (sym (get_or-take i bs k 0 less) ∙ e))
 
-pub lacks_all : (bs : Bytes) (i s : ℕ) → length bs ≤ i → ((k : ℕ) → k < i → get_or bs k 0 ≡ s → ⊥) → Lacks s bs
-lacks_all bs i s le none = All-from_get_or (λ b. b ≡ s → ⊥) bs 0 (λ k lt e. none k (omega arith) e)
+-- a search for s: the place of the first one, or that there is none
+module _ (s : ℕ) (bs : Bytes) where
+  abbrev first : ℕ
+  first = position_or_len (λ b. eqb b s) bs
+
+  before_first : (k : ℕ) → k < first → get_or bs k 0 ≡ s → ⊥
+  before_first k h e = true≢false (sym (eq-eqb (get_or bs k 0) s e) ∙ fails_before_first (λ b. eqb b s) bs k 0 h)
+
+  pub found_place : (i : ℕ) → Some i ≡ position (λ b. eqb b s) bs → (i < length bs) × (get_or bs i 0 ≡ s) × ((k : ℕ) → k < i → get_or bs k 0 ≡ s → ⊥)
+  found_place i = go (ltb first (length bs)) refl
+    where
+      go : (b : Bool) → ltb first (length bs) ≡ b → Some i ≡ cond b (Some first) None → (i < length bs) × (get_or bs i 0 ≡ s) × ((k : ℕ) → k < i → get_or bs k 0 ≡ s → ⊥)
+      go true t e =
+          let p : first ≡ i = cc in
+          let lt = ltb-true first (length bs) t in
+          subst (λ i. (i < length bs) × (get_or bs i 0 ≡ s) × ((k : ℕ) → k < i → get_or bs k 0 ≡ s → ⊥)) p (lt, eqb-true _ s (passes_at_first (λ b. eqb b s) bs 0 lt), before_first)
+      go false t e = absurd (let z : ◌≡◌ {A = ℕ} 0 1 = cc in omega arith)
+
+  pub found_none : None ≡ position (λ b. eqb b s) bs → Lacks s bs
+  found_none = go (ltb first (length bs)) refl
+    where
+      go : (b : Bool) → ltb first (length bs) ≡ b → None ≡ cond b (Some first) None → Lacks s bs
+      go true t e = absurd (let z : ◌≡◌ {A = ℕ} 0 1 = cc in omega arith)
+      go false t e = All-from_get_or (λ b. b ≡ s → ⊥) bs 0 (λ k lt e. before_first k (grind (arith, nat_tests)) e)
 
 -- what `cut` returns, as the checker writes it
-pub cut_here : (bs : Bytes) (i s : ℕ) → i < length bs → get_or bs i 0 ≡ s → ((k : ℕ) → k < i → get_or bs k 0 ≡ s → ⊥) → (bs ≡ take (i - 0) bs ++ (s ∷ take (length bs - (i + 1)) (drop (i + 1) bs))) × Lacks s (take (i - 0) bs)
-cut_here bs i s lt is none =
-    let z : i - 0 ≡ i = omega arith in
-    let back : drop i bs ≡ s ∷ take (length bs - (i + 1)) (drop (i + 1) bs) = drop_more bs i 0 lt ∙ ap (λ b. b ∷ drop (i + 1) bs) is ∙ ap (λ l. s ∷ l) (sym (take_rest bs (i + 1))) in
-    rw z (sym (take-append-drop i bs) ∙ ap (λ l. take i bs ++ l) back, lacks_front bs i s (omega arith) none)
+pub cut_here : (bs : Bytes) (i s : ℕ) → (i < length bs) × (get_or bs i 0 ≡ s) × ((k : ℕ) → k < i → get_or bs k 0 ≡ s → ⊥) → (bs ≡ take i bs ++ (s ∷ take (length bs - (i + 1)) (drop (i + 1) bs))) × Lacks s (take i bs)
+cut_here bs i s at =
+    let back : drop i bs ≡ s ∷ take (length bs - (i + 1)) (drop (i + 1) bs) = drop_more bs i 0 at.0 ∙ ap (λ b. b ∷ drop (i + 1) bs) at.1 ∙ ap (λ l. s ∷ l) (sym (take_rest bs (i + 1))) in
+    (sym (take-append-drop i bs) ∙ ap (λ l. take i bs ++ l) back, lacks_front bs i s (omega (arith, at.0)) at.2)
 
 module _ (s : ℕ) where
   pub between_cut : (end : List Bytes) (front rest : Bytes) → Lacks s front → between s end (front ++ (s ∷ rest)) ≡ front ∷ between s end rest
@@ -82,30 +107,22 @@ pub parts_counted : (lines : List Parts) (o : Option (Bor Bytes)) (r : Bool) (n 
 parts_counted lines o true n total e h t = let z = part_gone lines o e h in sym (eq-eqb total n (omega arith))
 parts_counted lines o false n total e h t = let z = part_came lines o e h in sym (ne_eqb total n (λ q. omega arith))
 
--- line feeds, counted one by one
-module _ (bs : Bytes) (i : ℕ) (lt : i < length bs) where
-  pub feed_more : get_or bs i 0 ≡ 10 → line_feeds (drop i bs) ≡ suc (line_feeds (drop (i + 1) bs))
-  feed_more e = at_drop_more line_feeds bs i 0 lt ∙ cond-true _ _ _ (eq-eqb _ 10 e)
-
-  pub feed_other : (get_or bs i 0 ≡ 10 → ⊥) → line_feeds (drop i bs) ≡ line_feeds (drop (i + 1) bs)
-  feed_other ne = at_drop_more line_feeds bs i 0 lt ∙ cond-false _ _ _ (ne_eqb _ 10 ne)
-
 pub feeds_le : (bs : Bytes) → line_feeds bs ≤ length bs
-feeds_le [] = omega arith
-feeds_le (b ∷ bs) = let h = feeds_le bs in cond_both (eqb b 10) _ _ (λ n. n ≤ suc (length bs)) (λ _. omega arith) (λ _. omega arith)
+feeds_le bs = count_by-le-length (λ b. b == 10) bs
 
 length-on_first : (b : ℕ) (ls : List Bytes) → length (on_first b ls) ≡ length ls
 length-on_first b [] = refl
 length-on_first b (l ∷ ls) = refl
 
 feeds_lines : (bs : Bytes) → length (lines_of bs) ≡ line_feeds bs
-feeds_lines [] = refl
-feeds_lines (b ∷ bs) =
-    let h = feeds_lines bs in
-    ⊎_elim
-    (λ t. ap length (cond-true _ _ _ t) ∙ ap suc h ∙ sym (cond-true _ _ _ t))
-    (λ f. ap length (cond-false _ _ _ f) ∙ length-on_first b (lines_of bs) ∙ h ∙ sym (cond-false _ _ _ f))
-    (cases_Bool (eqb b 10))
+feeds_lines = is_count_by (λ bs. length (lines_of bs)) (λ b. b == 10) refl step
+  where
+    step : (b : ℕ) (bs : Bytes) → length (lines_of (b ∷ bs)) ≡ cond (b == 10) (1 + length (lines_of bs)) (length (lines_of bs))
+    step b bs = go (eqb b 10)
+      where
+        go : (t : Bool) → length (cond t ([] ∷ lines_of bs) (on_first b (lines_of bs))) ≡ cond t (1 + length (lines_of bs)) (length (lines_of bs))
+        go true = omega arith
+        go false = length-on_first b (lines_of bs)
 
 -- a text has as many lines as line feeds
 pub feeds_count : (bs : Bytes) → length (parts_by_line bs) ≡ line_feeds bs

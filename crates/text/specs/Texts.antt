@@ -1,5 +1,5 @@
 -- A text by its lines and their parts, and the text that lines and parts make. Assumes nothing.
-use Rattle.std.specs.Prelude.{◌≡◌, ℕ, suc, ◌-◌, ◌≤◌, Bool, cond, ◌&&◌, List, [], ◌∷◌, ◌++◌, map, length, Option, MatchOption, ◌==◌, ◌≢◌, nat_le, nat_lt, slice_index}
+use Rattle.std.specs.Prelude.{◌≡◌, ℕ, ◌-◌, ◌≤◌, Bool, cond, ◌&&◌, List, [], ◌∷◌, ◌++◌, map, length, Option, MatchOption, ◌==◌, ◌≢◌, nat_le, nat_lt, slice_index, count_by}
 use Rattle.std.specs.Borrow.{Bor}
 use Rattle.std.specs.List.{flat_map, AllByRecursion}
 
@@ -68,8 +68,7 @@ PlainLine parts = (1 ≤ length parts) × AllByRecursion Plain parts
 
 -- how many bytes are line feeds
 abbrev pub line_feeds : Bytes → ℕ
-line_feeds [] = 0
-line_feeds (b ∷ bs) = cond (b == 10) (suc (line_feeds bs)) (line_feeds bs)
+line_feeds bs = count_by (λ b. b == 10) bs
 
 -- the bytes before the first s and those behind it, or nothing where there is no s
 abbrev pub Cuts : ℕ → Bytes → Option (Bor Bytes × Bor Bytes) → Type 0

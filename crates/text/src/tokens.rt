@@ -1,5 +1,5 @@
 // The lexer: cuts a text into tokens that are parts of the caller's bytes. It copies nothing.
-ghost use Rattle.std.specs.Prelude.{◌≡◌, ℕ, ◌≤◌, true, List, ◌∷◌, length, IfOk, if◌then◌else◌, Some, Ok, Err, ◌==◌};
+ghost use Rattle.std.specs.Prelude.{◌≡◌, ℕ, ◌≤◌, true, List, ◌∷◌, length, position, IfOk, if◌then◌else◌, Some, Ok, Err, ◌==◌};
 ghost use Rattle.std.specs.Option.{option_map};
 ghost use Rattle.refusal.specs.declared.Refusal.TheVariants.{Text};
 ghost use Rattle.refusal.specs.Refusals.{on_ok};
@@ -47,16 +47,19 @@ pub struct Lexer<'t> {
     in_names: bool,
 }
 
+// The place of the first `byte`.
+fn place_of(byte: u8, bytes: &[u8]) -> Option<usize>
+    ensures { result ≡ position (λ b. b == byte) bytes.now }
+{
+    bytes.iter().position(|b| *b == byte)
+}
+
 // The bytes before the first `at`, and those behind it.
 fn cut<'t>(bytes: &'t [u8], at: u8) -> Option<(&'t [u8], &'t [u8])>
     ensures { Cuts at bytes.now result }
 {
-    for (i, b) in bytes.iter().enumerate() {
-        if *b == at {
-            return Some((&bytes[0..i], &bytes[i + 1..]));
-        }
-    }
-    None
+    let place = place_of(at, bytes)?;
+    Some((&bytes[..place], &bytes[place + 1..]))
 }
 
 // The first part of what is left of a line, and the position behind it.
@@ -74,13 +77,7 @@ fn first_part<'t>(line: &'t [u8]) -> (&'t [u8], Position<'t>)
 fn line_feeds(bytes: &[u8]) -> usize
     ensures { result ≡ line_feeds bytes.now }
 {
-    let mut count = 0;
-    for b in bytes {
-        if *b == b'\n' {
-            count += 1;
-        }
-    }
-    count
+    bytes.iter().filter(|b| **b == b'\n').count()
 }
 
 impl<'t> Lexer<'t> {
