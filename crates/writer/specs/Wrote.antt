@@ -1,6 +1,13 @@
 -- What a writer has written and what is ahead of it. Assumes nothing.
-use Rattle.std.specs.Prelude.{◌≡◌, ℕ, List, ◌++◌, length, take, drop}
+use Rattle.std.specs.Prelude.{◌≡◌, ℕ, Bool, true, false, List, ◌++◌, length, take, drop}
 use Rattle.writer.specs.declared.Writer.{Writer}
+use Rattle.writer.specs.declared.Ending.{Ending}
+use Rattle.writer.specs.declared.Ending.TheVariants.{Part, Line}
+
+-- whether more parts of the line follow
+abbrev pub more_follow : Ending → Bool
+more_follow Part = true
+more_follow Line = false
 
 -- the bytes written so far
 abbrev pub done : Writer → List ℕ

@@ -2,12 +2,59 @@
 
 #![tactic(auto)]
 
-ghost use Rattle.std.specs.Prelude.{◌≡◌, [], ◌∷◌, length, decimal};
+ghost use Rattle.std.specs.Prelude.{◌≡◌, ℕ, List, [], ◌∷◌, length, decimal};
 ghost use Rattle.text.specs.Texts.{ending, part_text};
-ghost use Rattle.writer.specs.Wrote.{Wrote, done, ahead};
+ghost use Rattle.writer.specs.Wrote.{Wrote, done, ahead, more_follow};
 
 // The base that numbers are written in.
 const BASE: u32 = 10;
+
+// What stands behind a part of a line.
+#[derive(Clone, Copy, Debug, PartialEq, Eq)]
+pub enum Ending {
+    // A semicolon, and then another part.
+    Part,
+    // A line feed.
+    Line,
+}
+
+impl Ending {
+    // The byte that stands there.
+    fn byte(self) -> u8
+        ensures { result ≡ ending (more_follow self) }
+    {
+        match self {
+            Ending::Part => b';',
+            Ending::Line => b'\n',
+        }
+    }
+}
+
+// What can be written as a part of a line.
+pub trait Written {
+    // Its bytes.
+    ghost text: { Self → List ℕ };
+
+    fn write(self, writer: &mut Writer)
+        ensures { Wrote (text self) writer.old writer.new };
+}
+
+impl<'t> Written for &'t [u8] {
+    ghost text = { λ bytes. bytes.now };
+
+    fn write(self, writer: &mut Writer) {
+        writer.bytes(self);
+    }
+}
+
+// In decimal.
+impl Written for u32 {
+    ghost text = { λ n. decimal n };
+
+    fn write(self, writer: &mut Writer) {
+        writer.number(self);
+    }
+}
 
 // `at` is the place of the next byte; at or past the buffer's end nothing more is written.
 #[derive(Drop)]
@@ -62,26 +109,11 @@ impl<'b> Writer<'b> {
         self.byte(b'0' + (n % BASE) as u8);
     }
 
-    // Writes a text as a part of a line, and what ends the part.
-    pub fn text_part(&mut self, text: &[u8], more: bool)
-        ensures { Wrote (part_text text.now more) self.old self.new }
+    // Writes a part of a line, and what ends the part.
+    pub fn part<P: Written>(&mut self, part: P, ending: Ending)
+        ensures { Wrote (part_text (P.text part) (more_follow ending)) self.old self.new }
     {
-        self.bytes(text);
-        self.byte(ending_of(more));
+        part.write(self);
+        self.byte(ending.byte());
     }
-
-    // Writes a number as a part of a line, and what ends the part.
-    pub fn number_part(&mut self, n: u32, more: bool)
-        ensures { Wrote (part_text (decimal n) more) self.old self.new }
-    {
-        self.number(n);
-        self.byte(ending_of(more));
-    }
-}
-
-// The byte behind a part of a line.
-fn ending_of(more: bool) -> u8
-    ensures { result ≡ ending more }
-{
-    if more { b';' } else { b'\n' }
 }
