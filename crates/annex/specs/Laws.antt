@@ -1,5 +1,6 @@
 -- The two laws of an annex's numbers, given by field. Assumes nothing.
-use Rattle.std.specs.Prelude.{◌≡◌, ℕ, zero, suc, ◌+◌, ◌-◌, ◌<◌, ◌≤◌, Bool, true, false, cond, not, ◌&&◌, List, length, is_some, Some, None, Option, MatchOption, ◌==◌, nat_le, slice_index, slice_index_or}
+use Rattle.std.specs.Prelude.{◌≡◌, ℕ, ◌-◌, ◌<◌, ◌≤◌, Bool, not, ◌&&◌, List, length, is_some, Option, ◌==◌, nat_le, slice_index, slice_index_or}
+use Rattle.checklist.specs.Firsts.{first_failed, within}
 use Rattle.annex.specs.Numbers.{annex_names, ranges}
 
 -- as many numbers as names, each in its range
@@ -14,31 +15,11 @@ Rising ns = (i j : ℕ) → 10 ≤ i → i ≤ j → j < 21 → slice_index ns i
 
 -- the test of a range, at the place i from 0
 abbrev pub in_range : List ℕ → ℕ → Bool
-in_range ns i = nat_le (slice_index_or ranges i (0, 0)).0 (slice_index ns i) && nat_le (slice_index ns i) (slice_index_or ranges i (0, 0)).1
+in_range ns i = within (slice_index_or ranges i (0, 0)).0 (slice_index_or ranges i (0, 0)).1 (slice_index ns i)
 
 -- the test of a multiple against the one before it
 abbrev pub no_fall : List ℕ → ℕ → Bool
 no_fall ns i = nat_le (slice_index ns (i - 1)) (slice_index ns i)
-
--- the n places from i on pass a test
-abbrev pub Passes : (ℕ → Bool) → ℕ → ℕ → Type 0
-Passes test i n = (k : ℕ) → i ≤ k → k < i + n → test k ≡ true
-
--- of these places the field f, counted from 1, is the first that fails
-pub record FailsFirst (test : ℕ → Bool) (i n f : ℕ) : Type 0 where
-  pub from : i < f
-  pub upto : f ≤ i + n
-  pub fails : test (f - 1) ≡ false
-  pub before : (k : ℕ) → i ≤ k → k < f - 1 → test k ≡ true
-
--- that field, if not all of them pass
-abbrev pub first_failed : (ℕ → Bool) → ℕ → ℕ → Option ℕ
-first_failed test i zero = None
-first_failed test i (suc n) = cond (test i) (first_failed test (i + 1) n) (Some (i + 1))
-
--- what the first failure is
-abbrev pub FirstLaw : (ℕ → Bool) → ℕ → ℕ → Type 0
-FirstLaw test i n = MatchOption (first_failed test i n) (Passes test i n) (FailsFirst test i n)
 
 -- the first field out of its range
 unfoldable pub first_out : List ℕ → Option ℕ
