@@ -30,9 +30,9 @@ pub trait Book {
     fn mark(&self, situation: Situation, line: &Self::Line) -> u8
         ensures { result ≡ mark_of (meaning self.now) situation line.now }
     {
-        for i in 0..self.rules() {
-            if !self.meets(situation, i + 1, line) {
-                return i + 1;
+        for rule in 1..=self.rules() {
+            if !self.meets(situation, rule, line) {
+                return rule;
             }
         }
         0

@@ -4,7 +4,7 @@ ghost use Rattle.book.specs.Faults.{refusal_of};
 
 use refusal::Refusal;
 
-#[derive(Clone, Copy)]
+#[derive(Clone, Copy, Debug, PartialEq, Eq)]
 pub enum LineFault {
     // A value is outside its field's range or list; fields count from 1.
     Range { field: u32 },

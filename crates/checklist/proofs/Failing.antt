@@ -32,6 +32,25 @@ none_decides test i n = go (first_failed test i n) (first_law test i n)
     go None all = (λ _. all, λ _. refl)
     go (Some f) first = (λ e. absurd (both_ways false refl e), λ all. absurd (both_ways (test (f - 1)) first.fails (all (f - 1) (omega (arith, first.from)) (omega (arith, first.from, first.upto)))))
 
+-- what passes before a failure tells it
+pub told_first : (test : ℕ → Bool) (i n f : ℕ) → FailsFirst test i n f → first_failed test i n ≡ Some f
+told_first test i n f first = go (first_failed test i n) (first_law test i n)
+  where
+    go : (o : Option ℕ) → MatchOption o (Passes test i n) (FailsFirst test i n) → o ≡ Some f
+    go None all = absurd (both_ways (test (f - 1)) first.fails (all (f - 1) (omega (arith, first.from)) (omega (arith, first.from, first.upto))))
+    go (Some g) other =
+        ⊎_elim (λ e. ap Some e)
+        (⊎_elim (λ l. absurd (both_ways (test (g - 1)) other.fails (first.before (g - 1) (omega (arith, other.from)) (omega (arith, l, other.from)))))
+        (λ l. absurd (both_ways (test (f - 1)) first.fails (other.before (f - 1) (omega (arith, first.from)) (omega (arith, l, first.from))))))
+        (cases_order g f)
+
+pub told_none : (test : ℕ → Bool) (i n : ℕ) → Passes test i n → first_failed test i n ≡ None
+told_none test i n all = go (first_failed test i n) (first_law test i n)
+  where
+    go : (o : Option ℕ) → MatchOption o (Passes test i n) (FailsFirst test i n) → o ≡ None
+    go None _ = refl
+    go (Some f) first = absurd (both_ways (test (f - 1)) first.fails (all (f - 1) (omega (arith, first.from)) (omega (arith, first.from, first.upto))))
+
 -- the first failure in a list, which holds the tests from i on
 first_in_list : (test : ℕ → Bool) (i : ℕ) (ts : List Bool) → ((k : ℕ) → k < length ts → test (i + k) ≡ slice_index_or ts k true) → option_map (λ k. k + 1) (position_from (λ t. not t) i ts) ≡ first_failed test i (length ts)
 first_in_list test i [] h = refl

@@ -1,26 +1,36 @@
-use Rattle.std.proofs.Common.{ℕ, ◌+◌, sym, refl, ap, ◌∙◌, arith}
-use native.Mathlib.Numerals.{unary_clauses}
-use Rattle.checklist.proofs.Failing.{first_more, first_stops, first_all}
+use Rattle.std.proofs.Common.{◌≡◌, ℕ, ◌+◌, ◌-◌, ◌<◌, ◌≤◌, Bool, true, sym, ◌∙◌, ap, ⊎_elim, arith}
+use Rattle.std.proofs.lemmas.Bool.{cases_order}
+use Rattle.checklist.proofs.Failing.{told_first, told_none}
 use Rattle.book.specs.Meaning.{meets_of, or_zero}
 use Rattle.book.proofs.books.Book.mark.Goals as goal
 
-pub loop-i-init : goal.loop-i-init
-loop-i-init g c = simp unary_clauses refl
+-- the rules before this one and this one
+up_to : {met : ℕ → Bool} {rule : ℕ} → ((r : ℕ) → 1 ≤ r → r < rule → met r ≡ true) → met rule ≡ true → (r : ℕ) → 1 ≤ r → r < rule + 1 → met r ≡ true
+up_to {met} {rule} before here r h k = ⊎_elim (λ e. ap met e ∙ here) (⊎_elim (λ l. before r h l) (λ l. absurd (omega (arith, k, l)))) (cases_order r rule)
+
+pub loop-rule-init : goal.loop-rule-init
+loop-rule-init g c r h k = absurd (omega (arith, h, k))
 
 pub returns-then-not-meets : goal.returns-then-not-meets
 returns-then-not-meets g c =
     let m = g.Self.Book.meaning c.args.self.now in
-    let met = λ (i : ℕ). meets_of m c.args.situation (i + 1) c.args.line.now in
-    ap or_zero (sym (first_stops met c.loop-i.i m.rules (omega (arith, c.loop-i-test.true, c.rules-i-end.ensures)) (sym c.if-not-meets.ensures)) ∙ c.loop-i.invariant)
+    let met = λ (r : ℕ). meets_of m c.args.situation r c.args.line.now in
+    let at : c.loop-rule.rule - 1 + 1 ≡ c.loop-rule.rule = omega (arith, c.loop-rule.auto.rule) in
+    sym (ap or_zero (told_first (λ i. met (i + 1)) 0 m.rules c.loop-rule.rule (record {
+      from = c.loop-rule.auto.rule;
+      upto = omega (arith, c.loop-rule-test.true, c.rules-rule-end.ensures);
+      fails = ap met at ∙ sym c.if-not-meets.ensures;
+      before = λ k _ h. c.loop-rule.invariant (k + 1) (omega arith) (omega (arith, h));
+    })))
 
-pub loop-i-preserved : goal.loop-i-preserved
-loop-i-preserved g c =
+pub loop-rule-preserved : goal.loop-rule-preserved
+loop-rule-preserved g c =
     let m = g.Self.Book.meaning c.args.self.now in
-    let met = λ (i : ℕ). meets_of m c.args.situation (i + 1) c.args.line.now in
-    sym (first_more met c.loop-i.i m.rules (omega (arith, c.loop-i-test.true, c.rules-i-end.ensures)) (sym c.if-not-meets.ensures)) ∙ c.loop-i.invariant
+    up_to {met = λ r. meets_of m c.args.situation r c.args.line.now} c.loop-rule.invariant (sym c.if-not-meets.ensures)
 
-pub returns : goal.returns
-returns g c =
+pub returns-else-not-meets : goal.returns-else-not-meets
+returns-else-not-meets g c =
     let m = g.Self.Book.meaning c.args.self.now in
-    let met = λ (i : ℕ). meets_of m c.args.situation (i + 1) c.args.line.now in
-    ap or_zero (sym (first_all met c.loop-i.i m.rules (omega (arith, c.loop-i-test.false, c.rules-i-end.ensures))) ∙ c.loop-i.invariant)
+    let met = λ (r : ℕ). meets_of m c.args.situation r c.args.line.now in
+    let all = up_to {met = met} c.loop-rule.invariant (sym c.if-not-meets.ensures) in
+    sym (ap or_zero (told_none (λ i. met (i + 1)) 0 m.rules (λ k _ h. all (k + 1) (omega arith) (omega (arith, h)))))
