@@ -17,11 +17,9 @@ use std::io::{BufRead, BufReader};
 
 // The numbers of a text with semicolons between them; what is no number counts as 0.
 fn numbers_of(heap: Global, text: &str) -> Result<Vec<u32>, AllocError> {
-    let mut numbers = Vec::new(heap);
-    for part in text.split(';') {
-        numbers.push(part.parse::<u32>().unwrap_or(0))?;
-    }
-    Ok(numbers)
+    text.split(';')
+        .map(|part| part.parse::<u32>().unwrap_or(0))
+        .collect(heap)
 }
 
 // What the bar book answers to a line.
@@ -47,7 +45,7 @@ fn tried(heap: Global, case: &str) -> Result<String, AllocError> {
     let Some((situation, numbers)) = case.split_once('|') else {
         return format!(in heap; "no case");
     };
-    let Some(situation) = Situation::new(situation.parse::<u32>().unwrap_or(0)) else {
+    let Ok(situation) = Situation::try_from(situation.parse::<u32>().unwrap_or(0)) else {
         return format!(in heap; "no situation");
     };
     let numbers = numbers_of(heap, numbers)?;

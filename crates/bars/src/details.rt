@@ -9,7 +9,7 @@ use crate::lines::BarLine;
 use crate::trial::test_line;
 use anchorage::{Bar, Detail, Shape};
 use annex::Annex;
-use eurocode::{Diameter, Situation, Strength};
+use eurocode::{Diameter, Situation, Strength, TabledSize};
 
 fn shape_of(number: u32) -> Shape
     ensures { result ≡ shape_of number }

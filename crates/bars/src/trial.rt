@@ -8,7 +8,7 @@ use crate::lines::BarLine;
 use annex::Annex;
 use book::{LineFault, verdict};
 use checklist::first_failed;
-use eurocode::{Diameter, Situation, Strength};
+use eurocode::{Diameter, Situation, Strength, TabledSize};
 
 // Whether each field admits its number, in the order of the fields.
 fn admitted(line: &BarLine) -> [bool; 23]

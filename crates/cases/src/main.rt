@@ -9,7 +9,7 @@
 #![tactic(auto)]
 
 use annex::Annex;
-use eurocode::{Diameter, Situation};
+use eurocode::{Diameter, Situation, TabledSize};
 use national::{AnnexFields, NationalAnnex};
 use reader::check;
 use std::alloc::{AllocError, Global};

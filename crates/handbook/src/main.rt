@@ -9,18 +9,17 @@
 
 use anyhow::anyhow;
 use curves::{Bond, Entry};
-use eurocode::{Diameter, Strength};
+use eurocode::{Diameter, Strength, TabledSize};
 use std::env;
 
 mod curve;
 mod picture;
 mod tables;
 
-// The entry that is asked for behind the name of a page, if these are a tabled diameter, a tabled strength and a bond.
-fn entry_of(words: &[String]) -> Option<Entry> {
-    let [_, dia, fck, bond, ..] = words else {
-        return None;
-    };
+const USAGE: &str = "ask for: tables | curve DIA FCK BOND | picture DIA FCK BOND";
+
+// The entry of a diameter, a strength and a bond, if these are tabled and known.
+fn entry_of(dia: &String, fck: &String, bond: &String) -> Option<Entry> {
     Some(Entry {
         diameter: Diameter::new(dia.as_str().parse::<u32>().ok()?)?,
         strength: Strength::new(fck.as_str().parse::<u32>().ok()?)?,
@@ -28,24 +27,27 @@ fn entry_of(words: &[String]) -> Option<Entry> {
     })
 }
 
-// Prints the page that the first of these words asks for, and says how many words that took.
-fn page(rt: &HostRuntime, words: &[String]) -> anyhow::Result<usize> {
-    let [name, ..] = words else {
-        return Ok(1);
-    };
-    if name.as_str() == "tables" {
-        tables::print(rt)?;
-        return Ok(1);
+// Prints the pages that these words ask for, one after the other.
+fn print_pages(rt: &HostRuntime, words: &[String]) -> anyhow::Result<()> {
+    match words {
+        [] => Ok(()),
+        [name, rest @ ..] if name.as_str() == "tables" => {
+            tables::print(rt)?;
+            print_pages(rt, rest)
+        }
+        [name, dia, fck, bond, rest @ ..] => {
+            let Some(entry) = entry_of(dia, fck, bond) else {
+                return Err(anyhow!("{USAGE}"));
+            };
+            if name.as_str() == "curve" {
+                curve::print(rt, entry)?;
+            } else {
+                picture::print(rt, entry)?;
+            }
+            print_pages(rt, rest)
+        }
+        [..] => Err(anyhow!("{USAGE}")),
     }
-    let Some(entry) = entry_of(words) else {
-        return Err(anyhow!("ask for: tables | curve DIA FCK BOND | picture DIA FCK BOND"));
-    };
-    if name.as_str() == "curve" {
-        curve::print(rt, entry)?;
-    } else {
-        picture::print(rt, entry)?;
-    }
-    Ok(4)
 }
 
 fn pages(rt: &HostRuntime) -> anyhow::Result<()> {
@@ -56,14 +58,7 @@ fn pages(rt: &HostRuntime) -> anyhow::Result<()> {
     if words.is_empty() {
         tables::print(rt)?;
     }
-    let mut next = 0;
-    for at in 0..words.len() {
-        if at == next {
-            let taken = page(rt, &words.as_slice()[at..])?;
-            next = at.saturating_add(taken);
-        }
-    }
-    Ok(())
+    print_pages(rt, words.as_slice())
 }
 
 fn main(rt: HostRuntime) -> anyhow::Result<()> {

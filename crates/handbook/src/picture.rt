@@ -1,12 +1,8 @@
 // The anchorage length over the stress, as an SVG.
 ghost use Rattle.std.specs.Prelude.{◌≡◌, ◌+◌, ◌*◌, ◌/◌, ◌≤◌};
-ghost use Rattle.eurocode.specs.Sizes.{mm_of, fck_of};
-ghost use Rattle.curves.specs.Points.{point_of};
-ghost use Rattle.curves.specs.declared.entries.Joint.TheVariants.{Anchorage};
-ghost use Rattle.book.specs.Meaning.{or_zero};
 
-use crate::curve::STEP;
-use curves::{Bond, Entry, FULL_STRESS, Joint, length};
+use crate::curve::{STEP, point};
+use curves::{Bond, Entry, FULL_STRESS};
 use std::io;
 
 // The frame of the curve, in units of the picture.
@@ -21,7 +17,7 @@ const HEIGHT: u32 = 3600;
 // The stress at the right edge of the frame, in tenths of MPa, and how far apart its marks are.
 const MOST_STRESS: u32 = 4500;
 
-const STRESS_MARK: u32 = 500;
+const STRESS_MARK: usize = 500;
 
 // Marks of the lengths are so many mm apart, by the longest of them: about six marks to a picture.
 fn mark_of(longest: u32) -> u32
@@ -52,13 +48,6 @@ fn down(length: u32, most: u32) -> u64 {
     bottom.saturating_sub(u64::from(length) * u64::from(HEIGHT) / u64::from(most))
 }
 
-// The length at a stress; 0 where there is none.
-fn point(entry: Entry, stress: u32) -> u32
-    ensures { result ≡ or_zero (point_of Anchorage (mm_of entry.diameter) (fck_of entry.strength) entry.bond stress) }
-{
-    length(entry, Joint::Anchorage, stress).unwrap_or(0)
-}
-
 fn print_head(rt: &HostRuntime, entry: Entry) -> io::Result<()> {
     let dia = entry.diameter.mm();
     let fck = entry.strength.fck();
@@ -80,9 +69,9 @@ fn print_head(rt: &HostRuntime, entry: Entry) -> io::Result<()> {
 
 // Lines across the frame at each mark of the stress.
 fn print_stresses(rt: &HostRuntime) -> io::Result<()> {
-    for i in 0..MOST_STRESS / STRESS_MARK + 1 {
-        let x = across(i * STRESS_MARK);
-        let stress = i * STRESS_MARK / 10;
+    for mark in (0..=MOST_STRESS).step_by(STRESS_MARK) {
+        let x = across(mark);
+        let stress = mark / 10;
         println!(rt;
             "<path d=\"M{x} 600V4200\" stroke=\"#ddd\" stroke-width=\"10\"/><text x=\"{x}\" y=\"4400\" text-anchor=\"middle\">{stress}</text>"
         )?;
@@ -108,9 +97,9 @@ fn print_lengths(rt: &HostRuntime, mark: u32, marks: u32) -> io::Result<()> {
 // The curve through the points, and its end at the full stress.
 fn print_curve(rt: &HostRuntime, entry: Entry, most: u32) -> io::Result<()> {
     print!(rt; "<polyline fill=\"none\" stroke=\"#06c\" stroke-width=\"20\" points=\"")?;
-    for i in 0..FULL_STRESS / STEP + 1 {
-        let x = across(i * STEP);
-        let y = down(point(entry, i * STEP), most);
+    for stress in (0..=FULL_STRESS).step_by(STEP) {
+        let x = across(stress);
+        let y = down(point(entry, stress), most);
         print!(rt; "{x},{y} ")?;
     }
     let x = across(FULL_STRESS);

@@ -1,12 +1,7 @@
 // All lengths at full stress.
 use curves::{Bond, Entry, FULL_STRESS, Joint, length};
-use eurocode::{Diameter, Strength};
+use eurocode::{Diameter, Strength, TabledSize};
 use std::io;
-
-// No tabled diameter, in mm, or strength, in MPa, is above these.
-const THICKEST: u32 = 40;
-
-const STRONGEST: u32 = 50;
 
 // Prints what the lengths of every page assume, one assumption to a line.
 pub(crate) fn print_assumptions(rt: &HostRuntime) -> io::Result<()> {
@@ -36,24 +31,25 @@ fn print_row(rt: &HostRuntime, entry: Entry) -> io::Result<()> {
 }
 
 fn print_diameter(rt: &HostRuntime, bond: Bond, diameter: Diameter) -> io::Result<()> {
-    for fck in 0..=STRONGEST {
-        if let Some(strength) = Strength::new(fck) {
-            let entry = Entry {
+    for strength in Strength::table()
+        .iter()
+        .filter_map(|fck| Strength::new(*fck))
+    {
+        print_row(
+            rt,
+            Entry {
                 diameter,
                 strength,
                 bond,
-            };
-            print_row(rt, entry)?;
-        }
+            },
+        )?;
     }
     Ok(())
 }
 
 fn print_bond(rt: &HostRuntime, bond: Bond) -> io::Result<()> {
-    for mm in 0..=THICKEST {
-        if let Some(diameter) = Diameter::new(mm) {
-            print_diameter(rt, bond, diameter)?;
-        }
+    for diameter in Diameter::table().iter().filter_map(|mm| Diameter::new(*mm)) {
+        print_diameter(rt, bond, diameter)?;
     }
     Ok(())
 }
