@@ -1,5 +1,5 @@
 -- Numbers that stand in a table, and rules between any two of them, proved by tests that antt computes. Assumes nothing.
-use Rattle.std.specs.List.{position, position_from}
+use Rattle.std.specs.List.{position, position_from, list_any}
 use Rattle.std.proofs.lemmas.Iterator.Adapters.{position_from-zero}
 use Rattle.std.proofs.Common.{◌≡◌, ℕ, zero, suc, ◌+◌, ◌<◌, ◌≤◌, Bool, true, false, cond, not, ◌&&◌, ◌||◌, T, eqb, ltb, leb, List, [], ◌∷◌, length, get_or, is_some, Some, None, sym, refl, ap, ◌∙◌, subst, ⊎_elim, arith, eqb→eq}
 use Rattle.std.proofs.lemmas.Bool.{and_parts, cases_order, eq-eqb, leb-true}
@@ -117,6 +117,15 @@ search_is x xs = position_from-zero (λ y. eqb y x) xs ∙ position_is x 0 xs �
 
 pub searched : (x : ℕ) {read xs : List ℕ} → read ≡ xs → position (λ y. eqb y x) read ≡ cond (tabled x xs) (Some (place x xs)) None
 searched x {read} {xs} e = ap (position (λ y. eqb y x)) e ∙ search_is x xs
+
+-- one of the table's numbers equals x where x is tabled
+pub any_is : (x : ℕ) (xs : List ℕ) → list_any (λ y. eqb y x) xs ≡ tabled x xs
+unfolding tabled
+any_is x [] = refl
+any_is x (y ∷ ys) =
+    let e : eqb y x ≡ eqb x y = grind (arith, nat_tests) in
+    let rest = any_is x ys in
+    λ i. e i || rest i
 
 -- what a search of a table says: at what row x stands, or that it is not in it
 pub found : (x row : ℕ) (xs : List ℕ) → Some row ≡ cond (tabled x xs) (Some (place x xs)) None → (tabled x xs ≡ true) × (row < length xs) × (get_or xs row 0 ≡ x)
