@@ -4,7 +4,7 @@
 #![tactic(auto)]
 
 // How a bar ends.
-#[derive(Clone, Copy)]
+#[derive(Clone, Copy, PartialEq, Eq)]
 pub enum Shape {
     Straight,
     Bent,

@@ -4,6 +4,7 @@ ghost use Rattle.eurocode.specs.Tables.{tabled};
 ghost use Rattle.checklist.specs.Firsts.{first_failed, test_at};
 ghost use Rattle.bars.specs.Tests.{in_range, agrees, borne, test_of};
 
+use crate::books::BarBook;
 use crate::lines::BarLine;
 use annex::Annex;
 use book::{LineFault, verdict};
@@ -45,20 +46,14 @@ fn admitted(line: &BarLine) -> [bool; 23]
 fn is_confinement(eff: u32) -> bool
     ensures { result ≡ tabled eff (0 ∷ 5 ∷ 10 ∷ []) }
 {
-    match eff {
-        0 | 5 | 10 => true,
-        _ => false,
-    }
+    matches!(eff, 0 | 5 | 10)
 }
 
 // The first field that does not admit its number, counted from 1.
 fn first_out(line: &BarLine) -> Option<u32>
     ensures { result ≡ first_failed (test_at (in_range line.now)) 0 (length (in_range line.now)) }
 {
-    match first_failed(&admitted(line)) {
-        Some(field) => Some(field as u32),
-        None => None,
-    }
+    first_failed(&admitted(line)).map(|field| field as u32)
 }
 
 // Whether the fields agree: a straight bar has neither mandrel nor pitch, any other has both; an anchorage has no share,
@@ -79,26 +74,24 @@ fn fields_agree(line: &BarLine) -> bool
     bend & lap
 }
 
-// Whether the stress is at most fyk/γs.
-fn is_borne<A: Annex>(annex: &A, situation: Situation, line: &BarLine) -> bool
-    ensures { result ≡ borne (A.means annex.now) situation line.now }
-{
-    let stress = line.stress as u64;
-    let strength = line.fyk as u64;
-    stress * annex.gs(situation) as u64 <= 1000 * strength
-}
+impl<A: Annex> BarBook<A> {
+    // Whether the stress is at most fyk/γs.
+    fn is_borne(&self, situation: Situation, line: &BarLine) -> bool
+        ensures { result ≡ borne (A.means self.now.annex) situation line.now }
+    {
+        let stress = u64::from(line.stress);
+        let strength = u64::from(line.fyk);
+        stress * u64::from(self.annex.gs(situation)) <= 1000 * strength
+    }
 
-// The test of a line.
-pub(crate) fn test_line<A: Annex>(
-    annex: &A,
-    situation: Situation,
-    line: &BarLine,
-) -> Result<(), LineFault>
-    ensures { result ≡ test_of (A.means annex.now) situation line.now }
-{
-    verdict(
-        first_out(line),
-        fields_agree(line),
-        is_borne(annex, situation, line),
-    )
+    // The test of a line.
+    pub(crate) fn test_line(&self, situation: Situation, line: &BarLine) -> Result<(), LineFault>
+        ensures { result ≡ test_of (A.means self.now.annex) situation line.now }
+    {
+        verdict(
+            first_out(line),
+            fields_agree(line),
+            self.is_borne(situation, line),
+        )
+    }
 }

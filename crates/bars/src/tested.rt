@@ -1,0 +1,13 @@
+// A bar that the formulas may be asked of.
+ghost use Rattle.anchorage.specs.Ranges.{Ranged};
+
+use anchorage::{Bar, Detail};
+
+// A bar whose numbers are in the ranges of a line that passed its test. The factors, the lengths and the rules are its
+// methods: within these ranges none of them overflows.
+#[derive(Clone, Copy)]
+pub(crate) struct TestedBar {
+    pub(crate) detail: Detail,
+    pub(crate) bar: Bar,
+    ghost ranged: { Ranged bar },
+}
