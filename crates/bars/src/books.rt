@@ -40,20 +40,17 @@ impl<A: Annex> Book for BarBook<A> {
     }
 
     fn meets(&self, situation: Situation, rule: u8, line: &BarLine) -> bool {
-        if rule == 0 || RULES < rule {
+        let Some(bar) = self.tested_bar(situation, line) else {
             return true;
-        }
-        match self.tested_bar(situation, line) {
-            Some(bar) => bar.rules_met()[rule as usize - 1],
-            None => true,
-        }
+        };
+        rule == 0 || bar.rules_met().get(usize::from(rule) - 1).copied().unwrap_or(true)
     }
 
     fn figure(&self, situation: Situation, line: &BarLine) -> u32 {
-        match self.tested_bar(situation, line) {
-            Some(bar) => bar.required_length(),
-            None => 0,
-        }
+        let Some(bar) = self.tested_bar(situation, line) else {
+            return 0;
+        };
+        bar.required_length()
     }
 
     // The line is tested once, and not for each rule.
@@ -61,9 +58,6 @@ impl<A: Annex> Book for BarBook<A> {
         let Some(bar) = self.tested_bar(situation, line) else {
             return 0;
         };
-        match first_failed(&bar.rules_met()) {
-            Some(rule) => rule as u8,
-            None => 0,
-        }
+        first_failed(&bar.rules_met()).unwrap_or(0) as u8
     }
 }
