@@ -59,10 +59,7 @@ impl TestedBar {
     fn is_far(&self) -> bool
         ensures { result ≡ far self.now.detail.shape self.now.bar }
     {
-        match self.detail.shape {
-            Shape::Straight => false,
-            Shape::Bent | Shape::Loop => 6 * self.bar.dia < self.twice_cover(),
-        }
+        !self.is_straight() && 6 * self.bar.dia < self.twice_cover()
     }
 
     // α1, in tenths.

@@ -1,17 +1,10 @@
 // The eight rules of a bar.
 ghost use Rattle.std.specs.Prelude.{◌≡◌};
-ghost use Rattle.anchorage.specs.Rules.{straight, rule1, rule2, rule3, rule4, rule5, rule6, rule7, rule8, tension_lap, rules as all_rules};
+ghost use Rattle.anchorage.specs.Rules.{rule1, rule2, rule3, rule4, rule5, rule6, rule7, rule8, tension_lap, rules as all_rules};
 
 use crate::tested::TestedBar;
-use anchorage::Shape;
 
 impl TestedBar {
-    fn is_straight(&self) -> bool
-        ensures { result ≡ straight self.now.detail.shape }
-    {
-        self.detail.shape == Shape::Straight
-    }
-
     // The gap is at least k1·φ, the aggregate and k2, and 20.
     fn gap_suffices(&self) -> bool
         ensures { result ≡ rule1 self.now.bar }

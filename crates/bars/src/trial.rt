@@ -1,7 +1,7 @@
 // The test of a bar line: its fields in order, whether they agree, and whether the stress can be borne.
 ghost use Rattle.std.specs.Prelude.{◌≡◌, ◌≤◌, T, [], ◌∷◌, length};
 ghost use Rattle.eurocode.specs.Tables.{tabled};
-ghost use Rattle.checklist.specs.Firsts.{first_failed, test_at};
+ghost use Rattle.checklist.specs.Firsts.{first_failed, test_at, within};
 ghost use Rattle.bars.specs.Tests.{in_range, agrees, borne, test_of};
 
 use crate::books::BarBook;
@@ -16,30 +16,36 @@ fn admitted(line: &BarLine) -> [bool; 23]
     ensures { result ≡ in_range line.now }
 {
     [
-        (1 <= line.kind) & (line.kind <= 4),
+        is_within(1, 4, line.kind),
         Diameter::is_tabled(line.dia),
         Strength::is_tabled(line.fck),
-        (400 <= line.fyk) & (line.fyk <= 600),
+        is_within(400, 600, line.fyk),
         line.stress <= 6000,
-        (1 <= line.bond) & (line.bond <= 2),
-        (1 <= line.shape) & (line.shape <= 3),
+        is_within(1, 2, line.bond),
+        is_within(1, 3, line.shape),
         line.gap <= 1000,
         line.side <= 1000,
         line.cover <= 1000,
         line.trans <= 500_000,
         is_confinement(line.eff),
-        (1 <= line.member) & (line.member <= 2),
+        is_within(1, 2, line.member),
         (line.weld == 0) | Diameter::is_tabled(line.weld),
         line.press <= 200,
         line.share <= 100,
-        (1 <= line.layers) & (line.layers <= 2),
+        is_within(1, 2, line.layers),
         line.apart <= 1000,
         line.form <= 1,
-        (4 <= line.agg) & (line.agg <= 63),
+        is_within(4, 63, line.agg),
         line.mandrel <= 2000,
         line.pitch <= 2000,
         line.provided <= 20_000,
     ]
+}
+
+fn is_within(least: u32, most: u32, number: u32) -> bool
+    ensures { result ≡ within least most number }
+{
+    (least..=most).contains(&number)
 }
 
 // Whether K is one of the standard's, in hundredths.
