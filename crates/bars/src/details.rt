@@ -28,7 +28,7 @@ fn detail_of(line: &BarLine) -> Detail
 {
     Detail {
         lap: 3 <= line.kind,
-        tension: (line.kind == 1) | (line.kind == 3),
+        tension: matches!(line.kind, 1 | 3),
         beam: line.member == 1,
         shape: shape_of(line.shape),
     }

@@ -1,6 +1,6 @@
 // The test of a bar line: its fields in order, whether they agree, and whether the stress can be borne.
 ghost use Rattle.std.specs.Prelude.{◌≡◌, ◌≤◌, T, [], ◌∷◌, length};
-ghost use Rattle.eurocode.specs.Tables.{tabled};
+ghost use Rattle.eurocode.specs.Tables.{diameters, tabled};
 ghost use Rattle.checklist.specs.Firsts.{first_failed, test_at, within};
 ghost use Rattle.bars.specs.Tests.{in_range, agrees, borne, test_of};
 
@@ -29,7 +29,7 @@ fn admitted(line: &BarLine) -> [bool; 23]
         line.trans <= 500_000,
         is_confinement(line.eff),
         is_within(1, 2, line.member),
-        (line.weld == 0) | Diameter::is_tabled(line.weld),
+        is_weld(line.weld),
         line.press <= 200,
         line.share <= 100,
         is_within(1, 2, line.layers),
@@ -49,10 +49,19 @@ fn is_within(least: u32, most: u32, number: u32) -> bool
 }
 
 // Whether K is one of the standard's, in hundredths.
+#[tactic(auto, unfolding(eurocode::specs::Tables::tabled))]
 fn is_confinement(eff: u32) -> bool
     ensures { result ≡ tabled eff (0 ∷ 5 ∷ 10 ∷ []) }
 {
     matches!(eff, 0 | 5 | 10)
+}
+
+// Whether there is no welded cross bar, or one of a tabled diameter.
+#[tactic(auto, unfolding(eurocode::specs::Tables::tabled))]
+fn is_weld(dia: u32) -> bool
+    ensures { result ≡ tabled dia (0 ∷ diameters) }
+{
+    dia == 0 || Diameter::is_tabled(dia)
 }
 
 // The first field that does not admit its number, counted from 1.
@@ -68,16 +77,16 @@ fn fields_agree(line: &BarLine) -> bool
     ensures { result ≡ agrees line.now }
 {
     let bend = if line.shape == 1 {
-        (line.mandrel == 0) & (line.pitch == 0)
+        line.mandrel == 0 && line.pitch == 0
     } else {
-        (1 <= line.mandrel) & (1 <= line.pitch)
+        1 <= line.mandrel && 1 <= line.pitch
     };
     let lap = if line.kind <= 2 {
-        (line.share == 0) & ((line.apart == 0) & (line.form == 0))
+        line.share == 0 && line.apart == 0 && line.form == 0
     } else {
-        (1 <= line.share) & (line.weld == 0)
+        1 <= line.share && line.weld == 0
     };
-    bend & lap
+    bend && lap
 }
 
 impl<A: Annex> BarBook<A> {
