@@ -51,6 +51,7 @@ impl TestedBar {
     }
 
     // The figure, in mm.
+    #[tactic(auto, using(anchorage::proofs::Computing::l0_top, anchorage::proofs::Computing::lbd_top), unfolding(anchorage::specs::Lengths::figure, anchorage::specs::Lengths::required))]
     pub(crate) fn required_length(&self) -> u32
         ensures { result ≡ figure self.now.detail self.now.bar }
     {

@@ -12,6 +12,7 @@ use checklist::first_failed;
 use eurocode::{Diameter, Situation, Strength};
 
 // Whether each field admits its number, in the order of the fields.
+#[tactic(auto, unfolding(crate::specs::Tests::in_range, eurocode::specs::Tables::tabled))]
 fn admitted(line: &BarLine) -> [bool; 23]
     ensures { result ≡ in_range line.now }
 {
