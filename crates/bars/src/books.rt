@@ -43,7 +43,8 @@ impl<A: Annex> Book for BarBook<A> {
         let Some(bar) = self.tested_bar(situation, line) else {
             return true;
         };
-        rule == 0 || bar.rules_met().get(usize::from(rule) - 1).copied().unwrap_or(true)
+        let met = bar.rules_met();
+        rule == 0 || met.get(usize::from(rule) - 1).copied().unwrap_or(true)
     }
 
     fn figure(&self, situation: Situation, line: &BarLine) -> u32 {

@@ -78,8 +78,9 @@ impl TestedBar {
         ensures { result ≡ ths 1000000 (α2 self.now.detail.shape self.now.bar) }
     {
         let dia = self.bar.dia;
-        let beyond = (15 * self.twice_cover()).saturating_sub(30 * ample_cover(self.detail.shape) * dia);
-        clamped(beyond, 200 * dia)
+        let covered = 15 * self.twice_cover();
+        let ample = 30 * ample_cover(self.detail.shape) * dia;
+        clamped(covered.saturating_sub(ample), 200 * dia)
     }
 
     // α3 where the least transverse steel is `least` of `parts` parts of the bar's area, in millionths.
@@ -112,7 +113,11 @@ impl TestedBar {
     pub(crate) fn alpha4(&self) -> u64
         ensures { result ≡ (α4 self.now.bar).num }
     {
-        if 10 * self.bar.weld <= 6 * self.bar.dia { 10 } else { 7 }
+        if 10 * self.bar.weld <= 6 * self.bar.dia {
+            10
+        } else {
+            7
+        }
     }
 
     // α5, in millionths.

@@ -66,7 +66,8 @@ impl TestedBar {
         ensures { result ≡ rule7 self.now.detail self.now.bar }
     {
         let b = &self.bar;
-        !(self.is_tension_lap() && 20 <= b.dia && 51 <= b.share && b.apart <= 10 * b.dia) || b.form == 1
+        !(self.is_tension_lap() && 20 <= b.dia && 51 <= b.share && b.apart <= 10 * b.dia)
+            || b.form == 1
     }
 
     // The length provided is at least the figure.

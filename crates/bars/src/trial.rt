@@ -43,6 +43,7 @@ fn admitted(line: &BarLine) -> [bool; 23]
     ]
 }
 
+// Whether a number is in a range, both ends included.
 fn is_within(least: u32, most: u32, number: u32) -> bool
     ensures { result ≡ within least most number }
 {

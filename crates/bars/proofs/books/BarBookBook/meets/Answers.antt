@@ -18,5 +18,5 @@ returns-else-rule-eq0 g c =
     let b = c.in-Some.bar in
     let r = c.args.rule in
     c.unwrap_or.ensures ∙ ap (λ o. unwrap_or o true) c.copied.ensures ∙ c.get.ensures.lookup.4 (le_refl _) true
-    ∙ ap (λ i. get_or c.rules_met.result (i - 1) true) c.from.ensures ∙ ap (λ ts. get_or ts (r - 1) true) c.rules_met.ensures
+    ∙ ap (λ i. get_or c.rules_met-met.result (i - 1) true) c.from.ensures ∙ ap (λ ts. get_or ts (r - 1) true) c.rules_met-met.ensures
     ∙ meets_answer n c.args.situation c.args.line.now b.detail b.bar c.in-Some.ensures.detail c.in-Some.ensures.bar r (omega arith)
