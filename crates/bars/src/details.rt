@@ -2,13 +2,13 @@
 ghost use Rattle.std.specs.Prelude.{◌≡◌, ◌&&◌, IfSome, is_ok, if◌then◌else◌, Some, None};
 ghost use Rattle.std.specs.Option.{option_map};
 ghost use Rattle.eurocode.specs.Tables.{diameters, strengths, tabled};
-ghost use Rattle.bars.specs.Details.{shape_of, detail_of, bar_of};
+ghost use Rattle.bars.specs.Details.{shape_of, bond_of, layers_of, ties_of, detail_of, bar_of};
 ghost use Rattle.bars.specs.Tests.{test_of};
 
 use crate::books::BarBook;
 use crate::lines::BarLine;
 use crate::tested::TestedBar;
-use anchorage::{Bar, Detail, Shape};
+use anchorage::{Bar, Bond, Detail, Layers, Shape, Ties};
 use annex::Annex;
 use eurocode::{Diameter, Situation, Strength};
 
@@ -19,6 +19,33 @@ fn shape_of(number: u32) -> Shape
         1 => Shape::Straight,
         2 => Shape::Bent,
         _ => Shape::Loop,
+    }
+}
+
+fn bond_of(number: u32) -> Bond
+    ensures { result ≡ bond_of number }
+{
+    match number {
+        0..=1 => Bond::Good,
+        _ => Bond::Other,
+    }
+}
+
+fn layers_of(number: u32) -> Layers
+    ensures { result ≡ layers_of number }
+{
+    match number {
+        0..=1 => Layers::One,
+        _ => Layers::Several,
+    }
+}
+
+fn ties_of(number: u32) -> Ties
+    ensures { result ≡ ties_of number }
+{
+    match number {
+        1 => Ties::Links,
+        _ => Ties::Other,
     }
 }
 
@@ -49,7 +76,7 @@ impl<A: Annex> BarBook<A> {
             fctk: u64::from(strength.fctk()),
             fyk: u64::from(line.fyk),
             stress: u64::from(line.stress),
-            bond: u64::from(line.bond),
+            bond: bond_of(line.bond),
             gap: u64::from(line.gap),
             side: u64::from(line.side),
             cover: u64::from(line.cover),
@@ -58,9 +85,9 @@ impl<A: Annex> BarBook<A> {
             weld: u64::from(line.weld),
             press: u64::from(line.press),
             share: u64::from(line.share),
-            layers: u64::from(line.layers),
+            layers: layers_of(line.layers),
             apart: u64::from(line.apart),
-            form: u64::from(line.form),
+            ties: ties_of(line.form),
             agg: u64::from(line.agg),
             mandrel: u64::from(line.mandrel),
             pitch: u64::from(line.pitch),

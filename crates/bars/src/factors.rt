@@ -5,7 +5,7 @@ ghost use Rattle.measure.specs.Rounding.{ths, rounded};
 ghost use Rattle.anchorage.specs.Lengths.{η1, η2, twice_cd, factor, far, α1, ample, α2, by_surplus, α3, α4, α5, α6, α235};
 
 use crate::tested::TestedBar;
-use anchorage::Shape;
+use anchorage::{Bond, Shape};
 use measure::div_up;
 
 // 1 − n/d, clamped to 0.7 .. 1 and rounded up to millionths.
@@ -32,7 +32,10 @@ impl TestedBar {
     pub(crate) fn eta1(&self) -> u64
         ensures { result ≡ (η1 self.now.bar).num }
     {
-        if self.bar.bond <= 1 { 10 } else { 7 }
+        match self.bar.bond {
+            Bond::Good => 10,
+            Bond::Other => 7,
+        }
     }
 
     // η2, in hundredths.

@@ -3,6 +3,7 @@ ghost use Rattle.std.specs.Prelude.{◌≡◌};
 ghost use Rattle.anchorage.specs.Rules.{rule1, rule2, rule3, rule4, rule5, rule6, rule7, rule8, tension_lap, rules as all_rules};
 
 use crate::tested::TestedBar;
+use anchorage::{Layers, Ties};
 
 impl TestedBar {
     // The gap is at least k1·φ, the aggregate and k2, and 20.
@@ -42,7 +43,7 @@ impl TestedBar {
         ensures { result ≡ rule4 self.now.detail self.now.bar }
     {
         let b = &self.bar;
-        !(self.is_tension_lap() && 2 <= b.layers) || b.share <= 50
+        !(self.is_tension_lap() && b.layers == Layers::Several) || b.share <= 50
     }
 
     // Laps are clear of each other.
@@ -67,7 +68,7 @@ impl TestedBar {
     {
         let b = &self.bar;
         !(self.is_tension_lap() && 20 <= b.dia && 51 <= b.share && b.apart <= 10 * b.dia)
-            || b.form == 1
+            || b.ties == Ties::Links
     }
 
     // The length provided is at least the figure.
