@@ -1,8 +1,9 @@
 -- When the numbers of one bar ask no less than those of another. Assumes nothing.
-use Rattle.std.proofs.Common.{◌*◌, ◌≤◌}
+use Rattle.std.proofs.Common.{◌≡◌, ◌*◌, ◌≤◌, true}
 use Rattle.anchorage.specs.declared.Bar.{Bar}
 use Rattle.anchorage.specs.declared.Shape.{Shape}
-use Rattle.anchorage.specs.Lengths.{twice_cd}
+use Rattle.anchorage.specs.Lengths.{bond_quality, twice_cd}
+use Rattle.anchorage.specs.Rules.{several, linked}
 
 -- no less length; the cover that counts may grow with the diameter, as long as in diameters it is no larger
 pub record Longer (s : Shape) (p q : Bar) : Type 0 where
@@ -14,7 +15,7 @@ pub record Longer (s : Shape) (p q : Bar) : Type 0 where
   pub gc : q.gc ≤ p.gc
   pub gs : q.gs ≤ p.gs
   pub act : p.act ≤ q.act
-  pub bond : q.bond ≤ p.bond
+  pub bond : bond_quality p.bond ≤ bond_quality q.bond
   pub cover : twice_cd s p * q.dia ≤ twice_cd s q * p.dia
   pub trans : p.trans ≤ q.trans
   pub eff : p.eff ≤ q.eff
@@ -32,9 +33,9 @@ pub record Stricter (s : Shape) (p q : Bar) : Type 0 where
   pub k1 : q.k1 ≤ p.k1
   pub k2 : q.k2 ≤ p.k2
   pub multiple : q.multiple ≤ p.multiple
-  pub layers : q.layers ≤ p.layers
+  pub layers : several q.layers ≡ true → several p.layers ≡ true
   pub apart : p.apart ≤ q.apart
-  pub form : p.form ≤ q.form
+  pub ties : linked p.ties ≡ true → linked q.ties ≡ true
   pub agg : q.agg ≤ p.agg
   pub mandrel : p.mandrel ≤ q.mandrel
   pub pitch : p.pitch ≤ q.pitch

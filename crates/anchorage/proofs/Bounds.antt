@@ -5,13 +5,14 @@ use Rattle.measure.specs.Rounding.{ceiling, ths, rounded, unrounded}
 use Rattle.measure.proofs.Order.{≼_trans, ·-mono, less_le, ⊔-least, rounded_mono, lit≼, over_mono, leb_cases, cond_most}
 use Rattle.measure.proofs.Errors.{Within, within_self, within-·, within-⊔, within_rounded, within_whole, within_cond, exactly}
 use Rattle.anchorage.specs.declared.Bar.{Bar}
+use Rattle.anchorage.specs.declared.bonds.Bond.TheVariants.{Other}
 use Rattle.anchorage.specs.declared.Detail.{Detail}
 use Rattle.anchorage.specs.declared.Shape.{Shape}
 use Rattle.anchorage.specs.declared.Shape.TheVariants.{Straight}
 use Rattle.anchorage.specs.Lengths.{fbd, lb, twice_cd, factor, far, α1, α2, by_surplus, α3, α4, α5, α6, α235, lbd, l0, required, figure, exact, millionths}
 use Rattle.anchorage.specs.Ranges.{Ranged}
 use Rattle.anchorage.proofs.Asking.{Longer}
-use Rattle.anchorage.proofs.Rising.{lb_mono, α2_mono, α3_mono, α5_mono}
+use Rattle.anchorage.proofs.Rising.{bond_least, lb_mono, α2_mono, α3_mono, α5_mono}
 
 -- the bar that asks most of its basic length, else as b
 worst : Bar → Bar
@@ -24,7 +25,7 @@ worst b = record {
   gc = 200;
   gs = b.gs;
   act = 80;
-  bond = 2;
+  bond = Other;
   gap = 0;
   side = b.side;
   cover = b.cover;
@@ -40,7 +41,7 @@ worst b = record {
   multiple = b.multiple;
   layers = b.layers;
   apart = b.apart;
-  form = b.form;
+  ties = b.ties;
   agg = b.agg;
   mandrel = b.mandrel;
   pitch = b.pitch;
@@ -52,7 +53,7 @@ worst_asks : (b : Bar) → Ranged b → Longer Straight (worst b) b
 unfolding worst
 worst_asks b s =
     let none : twice_cd Straight (worst b) ≤ 0 = omega arith in
-    omega (arith, s, mul-le-mul_right b.dia none)
+    omega (arith, s, bond_least b.bond, mul-le-mul_right b.dia none)
 
 worst_ranged : (b : Bar) → Ranged b → Ranged (worst b)
 unfolding worst

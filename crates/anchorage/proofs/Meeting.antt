@@ -73,7 +73,7 @@ module _ (c : Detail) {p q : Bar} (a : Stricter c.shape p q) (m : Ranged p) (n :
   keeps6 r = grind (arith, nat_tests, a.longer.dia, a.longer.share, a.longer.trans, a.longer.area)
 
   keeps7 : rule7 c p ≡ true → rule7 c q ≡ true
-  keeps7 r = grind (arith, nat_tests, a.longer.dia, a.longer.share, a.apart, a.form, n.form_high)
+  keeps7 r = grind (arith, nat_tests, a.longer.dia, a.longer.share, a.apart, a.ties)
 
   keeps8 : rule8 c p ≡ true → rule8 c q ≡ true
   keeps8 r = grind (arith, nat_tests, a.provided, figure_mono c a.longer m n)

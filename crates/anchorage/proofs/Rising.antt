@@ -1,20 +1,27 @@
 -- The figure rises with what a bar asks. Assumes nothing.
-use Rattle.std.proofs.Common.{ℕ, ◌+◌, ◌-◌, ◌*◌, ◌<◌, ◌≤◌, Bool, true, false, cond, ◌&&◌, ltb, leb, le_refl, mul-le-mul_right, lt_of_mul-lt-mul_right, mul-le-mul_left, arith, lit<}
+use Rattle.std.proofs.Common.{ℕ, ◌+◌, ◌-◌, ◌*◌, ◌<◌, ◌≤◌, Bool, true, false, cond, ◌&&◌, ltb, leb, le_refl, mul-le-mul_right, lt_of_mul-lt-mul_right, mul-le-mul_left, arith, lit<, lit≤}
 use Rattle.std.proofs.lemmas.Bool.Decides.{nat_tests}
 use Rattle.measure.specs.Fractions.{Fraction, ◌over◌, whole, tenths, ◌÷◌, ◌less◌, ◌≼◌}
 use Rattle.measure.specs.Rounding.{rounded}
 use Rattle.measure.proofs.Order.{≼_refl, ·-mono, ÷-mono, less_mono, ⊔-mono, cond_mono, ths_mono, rounded_mono, lit≼, over_mono, leb_cases, Positive, ·-pos, ÷-pos, sub_mul}
 use Rattle.anchorage.specs.declared.Bar.{Bar}
+use Rattle.anchorage.specs.declared.bonds.Bond.{Bond}
+use Rattle.anchorage.specs.declared.bonds.Bond.TheVariants.{Good, Other}
 use Rattle.anchorage.specs.declared.Detail.{Detail}
 use Rattle.anchorage.specs.declared.Shape.{Shape}
 use Rattle.anchorage.specs.declared.Shape.TheVariants.{Straight, Bent, Loop}
 use Rattle.anchorage.specs.Quantities.{As}
-use Rattle.anchorage.specs.Lengths.{η1, η2, fbd, lb, twice_cd, cd, factor, far, α1, ample, α2, Astmin, by_surplus, α3, α4, α5, α6, α235, lbd, l0, required, figure, millionths}
+use Rattle.anchorage.specs.Lengths.{bond_quality, η1, η2, fbd, lb, twice_cd, cd, factor, far, α1, ample, α2, Astmin, by_surplus, α3, α4, α5, α6, α235, lbd, l0, required, figure, millionths}
 use Rattle.anchorage.specs.Ranges.{Ranged}
 use Rattle.anchorage.proofs.Asking.{Longer}
 
+-- no bond is below 0.7
+pub bond_least : (bond : Bond) → 7 ≤ bond_quality bond
+bond_least Good = lit≤ tt
+bond_least Other = lit≤ tt
+
 pub η1_pos : (b : Bar) → Positive (η1 b)
-η1_pos b = record { num_pos = grind (arith, nat_tests); den_pos = lit< tt }
+η1_pos b = record { num_pos = omega (arith, bond_least b.bond); den_pos = lit< tt }
 
 pub η2_pos : (b : Bar) → Ranged b → Positive (η2 b)
 η2_pos b s = record { num_pos = grind (arith, nat_tests, s.dia_high); den_pos = lit< tt }
@@ -24,7 +31,7 @@ unfolding fbd
 fbd_pos b s = ÷-pos (·-pos (·-pos (·-pos (·-pos (omega arith) (η1_pos b)) (η2_pos b s)) (omega (arith, s.act_low))) (omega (arith, s.fctk_low))) (omega (arith, s.gc_low))
 
 η1_mono : {s : Shape} {p q : Bar} → Longer s p q → η1 p ≼ η1 q
-η1_mono {s} {p} {q} a = over_mono 10 (lit< tt) (grind (arith, nat_tests, a.bond))
+η1_mono {s} {p} {q} a = over_mono 10 (lit< tt) a.bond
 
 η2_mono : {s : Shape} {p q : Bar} → Longer s p q → Ranged p → η2 p ≼ η2 q
 η2_mono {s} {p} {q} a m = over_mono 100 (lit< tt) (grind (arith, nat_tests, a.dia, m.dia_high))

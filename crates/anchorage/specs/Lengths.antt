@@ -4,15 +4,22 @@
 use Rattle.std.specs.Prelude.{ℕ, ◌+◌, ◌-◌, ◌*◌, min, Bool, false, cond, ◌&&◌, nat_le, nat_lt}
 use Rattle.measure.specs.Fractions.{Fraction, ◌over◌, whole, tenths, hundredths, ◌·◌, ◌÷◌, ◌less◌, ◌⊔◌}
 use Rattle.measure.specs.Rounding.{ths, rounded, unrounded}
+use Rattle.anchorage.specs.declared.bonds.Bond.{Bond}
+use Rattle.anchorage.specs.declared.bonds.Bond.TheVariants.{Good, Other}
 use Rattle.anchorage.specs.declared.Bar.{Bar}
 use Rattle.anchorage.specs.declared.Detail.{Detail}
 use Rattle.anchorage.specs.declared.Shape.{Shape}
 use Rattle.anchorage.specs.declared.Shape.TheVariants.{Straight, Bent, Loop}
 use Rattle.anchorage.specs.Quantities.{φ, As, Ast, σ, fyk, fctk, γc, γs, αct, K, p}
 
--- 1 for good bond, else 0.7
+-- in tenths: 1 for good bond, else 0.7
+abbrev pub bond_quality : Bond → ℕ
+bond_quality Good = 10
+bond_quality Other = 7
+
+-- for the bond
 abbrev pub η1 : Bar → Fraction
-η1 b = tenths (cond (nat_le b.bond 1) 10 7)
+η1 b = tenths (bond_quality b.bond)
 
 -- 1 up to 32 mm, else (132 − φ)/100
 abbrev pub η2 : Bar → Fraction

@@ -1,3 +1,4 @@
+pub mod Bonds
 pub mod Quantities
 pub mod Lengths
 pub mod Rules

@@ -14,7 +14,6 @@ pub record Ranged (b : Bar) : Type 0 where
   pub fyk_low : 400 ≤ b.fyk
   pub fyk_high : b.fyk ≤ 600
   pub stress_high : b.stress ≤ 6000
-  pub bond_high : b.bond ≤ 2
   pub gap_high : b.gap ≤ 1000
   pub side_high : b.side ≤ 1000
   pub cover_high : b.cover ≤ 1000
@@ -24,7 +23,6 @@ pub record Ranged (b : Bar) : Type 0 where
   pub press_high : b.press ≤ 200
   pub share_high : b.share ≤ 100
   pub apart_high : b.apart ≤ 1000
-  pub form_high : b.form ≤ 1
   pub agg_high : b.agg ≤ 63
   pub mandrel_high : b.mandrel ≤ 2000
   pub pitch_high : b.pitch ≤ 2000

@@ -1,11 +1,15 @@
 -- The eight rules of a bar (EN 1992-1-1, 8.2, 8.3, 8.4 and 8.7), as tests. A rule that does not apply is met. Assumes nothing.
-use Rattle.std.specs.Prelude.{◌+◌, ◌*◌, Bool, true, false, ◌&&◌, ◌||◌, List, [], ◌∷◌, nat_eq, nat_le}
+use Rattle.std.specs.Prelude.{◌+◌, ◌*◌, Bool, true, false, ◌&&◌, ◌||◌, List, [], ◌∷◌, nat_le}
 use Rattle.measure.specs.Fractions.{Fraction, ◌over◌, ◌·◌, ◌÷◌, ◌plus◌}
 use Rattle.measure.specs.Rounding.{reaches}
 use Rattle.anchorage.specs.declared.Bar.{Bar}
 use Rattle.anchorage.specs.declared.Detail.{Detail}
+use Rattle.anchorage.specs.declared.Layers.{Layers}
+use Rattle.anchorage.specs.declared.Layers.TheVariants.{One, Several}
 use Rattle.anchorage.specs.declared.Shape.{Shape}
 use Rattle.anchorage.specs.declared.Shape.TheVariants.{Straight, Bent, Loop}
+use Rattle.anchorage.specs.declared.Ties.{Ties}
+use Rattle.anchorage.specs.declared.Ties.TheVariants.{Links, Other}
 use Rattle.anchorage.specs.Quantities.{φ, As, σ, fck, αcc, γc}
 use Rattle.anchorage.specs.Lengths.{figure}
 
@@ -19,6 +23,14 @@ abbrev pub straight : Shape → Bool
 straight Straight = true
 straight Bent = false
 straight Loop = false
+
+abbrev pub several : Layers → Bool
+several One = false
+several Several = true
+
+abbrev pub linked : Ties → Bool
+linked Links = true
+linked Other = false
 
 abbrev pub tension_lap : Detail → Bool
 tension_lap d = d.lap && d.tension
@@ -45,7 +57,7 @@ rule3 d b = straight d.shape || reaches b.mandrel (least_mandrel b)
 
 -- laps in tension in several layers: at most half of the bars
 abbrev pub rule4 : Detail → Bar → Bool
-rule4 d b = tension_lap d && nat_le 2 b.layers ⇒ nat_le b.share 50
+rule4 d b = tension_lap d && several b.layers ⇒ nat_le b.share 50
 
 -- laps: clear of each other by 2φ and 20
 abbrev pub rule5 : Detail → Bar → Bool
@@ -57,7 +69,7 @@ rule6 d b = tension_lap d && (nat_le 20 (φ b) && nat_le 25 b.share) ⇒ nat_le 
 
 -- laps in tension of bars from 20 mm, more than half lapped and at most 10φ apart: links or U bars
 abbrev pub rule7 : Detail → Bar → Bool
-rule7 d b = tension_lap d && (nat_le 20 (φ b) && (nat_le 51 b.share && nat_le b.apart (10 * φ b))) ⇒ nat_eq b.form 1
+rule7 d b = tension_lap d && (nat_le 20 (φ b) && (nat_le 51 b.share && nat_le b.apart (10 * φ b))) ⇒ linked b.ties
 
 -- the length provided is at least the figure
 abbrev pub rule8 : Detail → Bar → Bool

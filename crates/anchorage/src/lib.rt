@@ -3,12 +3,31 @@
 
 #![tactic(auto)]
 
+pub mod bonds;
+
+pub use bonds::{Bond, UnknownBond};
+
 // How a bar ends.
-#[derive(Clone, Copy)]
+#[derive(Clone, Copy, PartialEq, Eq)]
 pub enum Shape {
     Straight,
     Bent,
     Loop,
+}
+
+// In how many layers bars are lapped.
+#[derive(Clone, Copy, PartialEq, Eq)]
+pub enum Layers {
+    One,
+    Several,
+}
+
+// What the transverse steel is made of.
+#[derive(Clone, Copy, PartialEq, Eq)]
+pub enum Ties {
+    // Links or U bars.
+    Links,
+    Other,
 }
 
 // Which of the standard's cases a bar is.
@@ -34,8 +53,7 @@ pub struct Bar {
     pub fctk: u64,
     pub fyk: u64,
     pub stress: u64,
-    // 1 for good bond, 2 for other.
-    pub bond: u64,
+    pub bond: Bond,
     pub gap: u64,
     pub side: u64,
     pub cover: u64,
@@ -44,11 +62,9 @@ pub struct Bar {
     pub weld: u64,
     pub press: u64,
     pub share: u64,
-    // 1 for one, 2 for several.
-    pub layers: u64,
+    pub layers: Layers,
     pub apart: u64,
-    // 1 for links or U bars, 0 for other.
-    pub form: u64,
+    pub ties: Ties,
     pub agg: u64,
     pub mandrel: u64,
     pub pitch: u64,

@@ -1,5 +1,5 @@
 -- The answers of the bar book, from what its functions compute. Assumes nothing.
-use Rattle.std.proofs.Common.{◌≡◌, ℕ, suc, ◌+◌, ◌-◌, ◌≤◌, Bool, true, false, cond, ◌∷◌, get_or, is_ok, Some, None, sym, refl, ap, ◌∙◌, ap₂, arith}
+use Rattle.std.proofs.Common.{◌≡◌, ℕ, suc, ◌+◌, ◌-◌, ◌≤◌, Bool, true, false, cond, ◌∷◌, get_or, is_ok, Some, None, Option, unwrap_or, sym, refl, ap, ◌∙◌, ap₂, arith}
 use Rattle.eurocode.specs.declared.Situation.{Situation}
 use Rattle.annex.specs.declared.numbers.Numbers.{Numbers}
 use Rattle.anchorage.specs.declared.Bar.{Bar}
@@ -17,9 +17,9 @@ there : (b : Bool) (x y : Bar) → Some x ≡ cond b (Some y) None → (b ≡ tr
 there true x y e = (refl, cc)
 there false x y e = absurd (let z : ◌≡◌ {A = ℕ} 0 1 = cc in omega arith)
 
-nowhere : (b : Bool) (y : Bar) → None ≡ cond b (Some y) None → b ≡ false
-nowhere true y e = absurd (let z : ◌≡◌ {A = ℕ} 0 1 = cc in omega arith)
-nowhere false y e = refl
+or_zero_is : (o : Option ℕ) → unwrap_or o 0 ≡ or_zero o
+or_zero_is None = refl
+or_zero_is (Some k) = refl
 
 module _ (n : Numbers) (s : Situation) (l : BarLine) where
   -- of a line that passes, with its detail d and its bar b
@@ -33,23 +33,18 @@ module _ (n : Numbers) (s : Situation) (l : BarLine) where
     tests_are : rules d b ≡ rules (detail_of l) (bar_of n s l)
     tests_are = let at = there (is_ok (test_of n s l)) b (bar_of n s l) eb in ap₂ rules ed at.1
 
-    pub mark_answer : or_zero (first_failed (test_at (rules d b)) 0 8) ≡ mark_of (bar_meaning n) s l
+    pub mark_answer : unwrap_or (first_failed (test_at (rules d b)) 0 8) 0 ≡ mark_of (bar_meaning n) s l
     unfolding bar_meets
     mark_answer =
         let at = there (is_ok (test_of n s l)) b (bar_of n s l) eb in
-        ap (λ ts. or_zero (first_failed (test_at ts) 0 8)) tests_are ∙ ap (λ t. or_zero (first_failed (λ i. cond t (bar_meets n s (i + 1) l) true) 0 8)) (sym at.0)
+        or_zero_is (first_failed (test_at (rules d b)) 0 8) ∙ ap (λ ts. or_zero (first_failed (test_at ts) 0 8)) tests_are ∙ ap (λ t. or_zero (first_failed (λ i. cond t (bar_meets n s (i + 1) l) true) 0 8)) (sym at.0)
 
-    pub meets_answer : (r : ℕ) → 1 ≤ r → test_at (rules d b) (r - 1) ≡ meets_of (bar_meaning n) s r l
+    pub meets_answer : (r : ℕ) → 1 ≤ r → get_or (rules d b) (r - 1) true ≡ meets_of (bar_meaning n) s r l
     unfolding bar_meets
     meets_answer r h =
         let at = there (is_ok (test_of n s l)) b (bar_of n s l) eb in
         let e : suc (r - 1) ≡ r = omega arith in
-        ap (λ ts. test_at ts (r - 1)) tests_are ∙ ap (λ k. test_at (true ∷ rules (detail_of l) (bar_of n s l)) k) e ∙ ap (λ t. cond t (bar_meets n s r l) true) (sym at.0)
-
-  -- of one that fails its test
-  module _ (e : None ≡ cond (is_ok (test_of n s l)) (Some (bar_of n s l)) None) where
-    pub mark_failed : 0 ≡ mark_of (bar_meaning n) s l
-    mark_failed = sym (ap (λ t. or_zero (first_failed (λ i. cond t (bar_meets n s (i + 1) l) true) 0 8)) (nowhere (is_ok (test_of n s l)) (bar_of n s l) e))
+        ap (λ ts. get_or ts (r - 1) true) tests_are ∙ ap (λ k. get_or (true ∷ rules (detail_of l) (bar_of n s l)) k true) e ∙ ap (λ t. cond t (bar_meets n s r l) true) (sym at.0)
 
   -- there is no rule 0, and none past the eighth
   pub meets_none : (r : ℕ) → get_or (true ∷ rules (detail_of l) (bar_of n s l)) r true ≡ true → true ≡ meets_of (bar_meaning n) s r l

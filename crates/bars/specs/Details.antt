@@ -5,8 +5,15 @@ use Rattle.eurocode.specs.declared.Situation.{Situation}
 use Rattle.eurocode.specs.Tables.{area_of, fctk_of}
 use Rattle.annex.specs.declared.numbers.Numbers.{Numbers}
 use Rattle.annex.specs.Numbers.{gc_of, gs_of, multiple_of}
+use Rattle.anchorage.specs.declared.bonds.Bond.{Bond}
+use Rattle.anchorage.specs.declared.bonds.Bond.TheVariants.{Good, Other}
 use Rattle.anchorage.specs.declared.Bar.{Bar}
 use Rattle.anchorage.specs.declared.Detail.{Detail}
+use Rattle.anchorage.specs.declared.Layers.{Layers}
+use Rattle.anchorage.specs.declared.Layers.TheVariants.{One, Several}
+use Rattle.anchorage.specs.declared.Ties.{Ties}
+use Rattle.anchorage.specs.declared.Ties.TheVariants.{Links}
+use Rattle.anchorage.specs.declared.Ties.TheVariants.{Other as OtherTies}
 use Rattle.anchorage.specs.declared.Shape.{Shape}
 use Rattle.anchorage.specs.declared.Shape.TheVariants.{Straight, Bent, Loop}
 use Rattle.bars.specs.declared.lines.BarLine.{BarLine}
@@ -14,6 +21,18 @@ use Rattle.bars.specs.declared.lines.BarLine.{BarLine}
 -- 1 straight, 2 a bend or hook, 3 a loop
 abbrev pub shape_of : ℕ → Shape
 shape_of n = cond (n == 1) Straight (cond (n == 2) Bent Loop)
+
+-- 1 good, 2 other; a lesser number counts as 1 and a greater as 2, here and for the layers
+abbrev pub bond_of : ℕ → Bond
+bond_of n = cond (nat_le n 1) Good Other
+
+-- 1 one, 2 several
+abbrev pub layers_of : ℕ → Layers
+layers_of n = cond (nat_le n 1) One Several
+
+-- 1 links or U bars, any other number other
+abbrev pub ties_of : ℕ → Ties
+ties_of n = cond (n == 1) Links OtherTies
 
 -- kinds 3 and 4 are laps, kinds 1 and 3 in tension; member 1 is a beam
 abbrev pub detail_of : BarLine → Detail
@@ -27,7 +46,7 @@ bar_of n s l = record {
   fctk = fctk_of l.fck;
   fyk = l.fyk;
   stress = l.stress;
-  bond = l.bond;
+  bond = bond_of l.bond;
   gap = l.gap;
   side = l.side;
   cover = l.cover;
@@ -36,9 +55,9 @@ bar_of n s l = record {
   weld = l.weld;
   press = l.press;
   share = l.share;
-  layers = l.layers;
+  layers = layers_of l.layers;
   apart = l.apart;
-  form = l.form;
+  ties = ties_of l.form;
   agg = l.agg;
   mandrel = l.mandrel;
   pitch = l.pitch;

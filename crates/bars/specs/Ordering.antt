@@ -14,8 +14,8 @@ use Rattle.annex.proofs.Answering.{multiple_rises}
 use Rattle.anchorage.specs.declared.Bar.{Bar}
 use Rattle.anchorage.specs.declared.Shape.{Shape}
 use Rattle.anchorage.specs.declared.Shape.TheVariants.{Straight, Bent, Loop}
-use Rattle.anchorage.specs.Lengths.{twice_cd, figure}
-use Rattle.anchorage.specs.Rules.{straight, rules}
+use Rattle.anchorage.specs.Lengths.{bond_quality, twice_cd, figure}
+use Rattle.anchorage.specs.Rules.{straight, several, linked, rules}
 use Rattle.anchorage.proofs.Asking.{Stricter}
 use Rattle.anchorage.proofs.Rising.{figure_mono}
 use Rattle.anchorage.proofs.Bounds.{figure_near}
@@ -23,10 +23,10 @@ use Rattle.anchorage.proofs.Meeting.{rules_kept}
 use Rattle.book.specs.Meaning.{Above, Ordered, NearLaw, OrderLaw}
 use Rattle.book.proofs.Testing.{passes_on}
 use Rattle.bars.specs.declared.lines.BarLine.{BarLine}
-use Rattle.bars.specs.Details.{detail_of, bar_of}
+use Rattle.bars.specs.Details.{bond_of, layers_of, ties_of, detail_of, bar_of}
 use Rattle.bars.specs.Tests.{in_range, agrees, borne, test_of}
 use Rattle.bars.specs.Meaning.{AsksNoLess, bar_figure, bar_exact, bar_meets, bar_meaning}
-use Rattle.bars.specs.Passing.{truth, agreed, dia_tabled, fck_tabled, ranged}
+use Rattle.bars.specs.Passing.{truth, agreed, dia_tabled, fck_tabled, form_most, ranged}
 
 -- the first law
 pub near_law : (n : Numbers) → laws.Ranged (fields_of n) → NearLaw (bar_meaning n)
@@ -50,6 +50,15 @@ cover_order : (shape : Shape) (p q : Bar) → p.gap ≤ q.gap → p.side ≤ q.s
 cover_order Straight p q g s c = omega arith
 cover_order Bent p q g s c = omega arith
 cover_order Loop p q g s c = omega arith
+
+bond_order : (m n : ℕ) → n ≤ m → bond_quality (bond_of m) ≤ bond_quality (bond_of n)
+bond_order m n h = grind (arith, nat_tests)
+
+layers_order : (m n : ℕ) → n ≤ m → several (layers_of n) ≡ true → several (layers_of m) ≡ true
+layers_order m n h e = grind (arith, nat_tests)
+
+ties_order : (m n : ℕ) → m ≤ n → n ≤ 1 → linked (ties_of m) ≡ true → linked (ties_of n) ≡ true
+ties_order m n h few e = grind (arith, nat_tests)
 
 same_detail : (p q : BarLine) → AsksNoLess p q → detail_of p ≡ detail_of q
 same_detail p q a = cc (a.kind, a.member, a.shape)
@@ -82,7 +91,7 @@ module _ (m n : Numbers) (rm : laws.Ranged (fields_of m)) (rn : laws.Ranged (fie
           gc = h.gc;
           gs = h.gs;
           act = h.act;
-          bond = a.bond;
+          bond = bond_order p.bond q.bond a.bond;
           cover = mul-le-mul (cover_order shape (bar_of m s p) (bar_of n t q) a.gap a.side a.cover) a.dia;
           trans = a.trans;
           eff = a.eff;
@@ -97,9 +106,9 @@ module _ (m n : Numbers) (rm : laws.Ranged (fields_of m)) (rn : laws.Ranged (fie
         k1 = h.k1;
         k2 = h.k2;
         multiple = le_trans (h.multiples q.dia φq) (multiple_rises m rise q.dia p.dia φq φp a.dia);
-        layers = a.layers;
+        layers = layers_order p.layers q.layers a.layers;
         apart = a.apart;
-        form = a.form;
+        ties = ties_order p.form q.form a.form (form_most n t q pq);
         agg = a.agg;
         mandrel = a.mandrel;
         pitch = a.pitch;

@@ -56,6 +56,10 @@ module _ (n : Numbers) (s : Situation) (l : BarLine) (e : is_ok (test_of n s l) 
   unfolding in_range
   fck_tabled = admits_at 2 (lit< tt)
 
+  pub form_most : l.form ≤ 1
+  unfolding in_range
+  form_most = leb-true l.form 1 (admits_at 18 (lit< tt))
+
   pub ranged : laws.Ranged (fields_of n) → Ranged (bar_of n s l)
   unfolding in_range
   ranged r =
@@ -73,7 +77,6 @@ module _ (n : Numbers) (s : Situation) (l : BarLine) (e : is_ok (test_of n s l) 
         fyk_low = least 400 600 l.fyk (admits_at 3 (lit< tt));
         fyk_high = most 400 600 l.fyk (admits_at 3 (lit< tt));
         stress_high = leb-true l.stress 6000 (admits_at 4 (lit< tt));
-        bond_high = most 1 2 l.bond (admits_at 5 (lit< tt));
         gap_high = leb-true l.gap 1000 (admits_at 7 (lit< tt));
         side_high = leb-true l.side 1000 (admits_at 8 (lit< tt));
         cover_high = leb-true l.cover 1000 (admits_at 9 (lit< tt));
@@ -83,7 +86,6 @@ module _ (n : Numbers) (s : Situation) (l : BarLine) (e : is_ok (test_of n s l) 
         press_high = leb-true l.press 200 (admits_at 14 (lit< tt));
         share_high = leb-true l.share 100 (admits_at 15 (lit< tt));
         apart_high = leb-true l.apart 1000 (admits_at 17 (lit< tt));
-        form_high = leb-true l.form 1 (admits_at 18 (lit< tt));
         agg_high = most 4 63 l.agg (admits_at 19 (lit< tt));
         mandrel_high = leb-true l.mandrel 2000 (admits_at 20 (lit< tt));
         pitch_high = leb-true l.pitch 2000 (admits_at 21 (lit< tt));

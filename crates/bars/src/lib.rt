@@ -2,11 +2,15 @@
 
 #![tactic(auto)]
 
+mod books;
 mod details;
-pub mod factors;
+mod factors;
+mod lengths;
 pub mod lines;
 pub mod names;
+mod rules;
+mod tested;
 mod trial;
 
-pub use factors::lengths::rules::books::BarBook;
+pub use books::BarBook;
 pub use lines::BarLine;

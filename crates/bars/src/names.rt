@@ -6,7 +6,7 @@ ghost use Rattle.bars.specs.Lines.{line_of};
 ghost use Rattle.reader.proofs.Naming.{well_named};
 ghost use Rattle.bars.specs.Listing.{lists};
 
-use crate::factors::lengths::rules::books::BarBook;
+use crate::books::BarBook;
 use crate::lines::BarLine;
 use annex::Annex;
 use book::{Book, WrittenBook};

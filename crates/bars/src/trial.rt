@@ -1,9 +1,10 @@
 // The test of a bar line: its fields in order, whether they agree, and whether the stress can be borne.
 ghost use Rattle.std.specs.Prelude.{◌≡◌, ◌≤◌, T, [], ◌∷◌, length};
-ghost use Rattle.eurocode.specs.Tables.{tabled};
-ghost use Rattle.checklist.specs.Firsts.{first_failed, test_at};
+ghost use Rattle.eurocode.specs.Tables.{diameters, tabled};
+ghost use Rattle.checklist.specs.Firsts.{first_failed, test_at, within};
 ghost use Rattle.bars.specs.Tests.{in_range, agrees, borne, test_of};
 
+use crate::books::BarBook;
 use crate::lines::BarLine;
 use annex::Annex;
 use book::{LineFault, verdict};
@@ -11,54 +12,65 @@ use checklist::first_failed;
 use eurocode::{Diameter, Situation, Strength, TabledSize};
 
 // Whether each field admits its number, in the order of the fields.
+#[tactic(auto, unfolding(crate::specs::Tests::in_range, eurocode::specs::Tables::tabled))]
 fn admitted(line: &BarLine) -> [bool; 23]
     ensures { result ≡ in_range line.now }
 {
     [
-        (1 <= line.kind) & (line.kind <= 4),
+        is_within(1, 4, line.kind),
         Diameter::is_tabled(line.dia),
         Strength::is_tabled(line.fck),
-        (400 <= line.fyk) & (line.fyk <= 600),
+        is_within(400, 600, line.fyk),
         line.stress <= 6000,
-        (1 <= line.bond) & (line.bond <= 2),
-        (1 <= line.shape) & (line.shape <= 3),
+        is_within(1, 2, line.bond),
+        is_within(1, 3, line.shape),
         line.gap <= 1000,
         line.side <= 1000,
         line.cover <= 1000,
         line.trans <= 500_000,
         is_confinement(line.eff),
-        (1 <= line.member) & (line.member <= 2),
-        (line.weld == 0) | Diameter::is_tabled(line.weld),
+        is_within(1, 2, line.member),
+        is_weld(line.weld),
         line.press <= 200,
         line.share <= 100,
-        (1 <= line.layers) & (line.layers <= 2),
+        is_within(1, 2, line.layers),
         line.apart <= 1000,
         line.form <= 1,
-        (4 <= line.agg) & (line.agg <= 63),
+        is_within(4, 63, line.agg),
         line.mandrel <= 2000,
         line.pitch <= 2000,
         line.provided <= 20_000,
     ]
 }
 
+// Whether a number is in a range, both ends included.
+fn is_within(least: u32, most: u32, number: u32) -> bool
+    ensures { result ≡ within least most number }
+{
+    (least..=most).contains(&number)
+}
+
 // Whether K is one of the standard's, in hundredths.
+#[tactic(auto, unfolding(eurocode::specs::Tables::tabled))]
 fn is_confinement(eff: u32) -> bool
     ensures { result ≡ tabled eff (0 ∷ 5 ∷ 10 ∷ []) }
 {
-    match eff {
-        0 | 5 | 10 => true,
-        _ => false,
-    }
+    matches!(eff, 0 | 5 | 10)
+}
+
+// Whether there is no welded cross bar, or one of a tabled diameter.
+#[tactic(auto, unfolding(eurocode::specs::Tables::tabled))]
+fn is_weld(dia: u32) -> bool
+    ensures { result ≡ tabled dia (0 ∷ diameters) }
+{
+    dia == 0 || Diameter::is_tabled(dia)
 }
 
 // The first field that does not admit its number, counted from 1.
 fn first_out(line: &BarLine) -> Option<u32>
     ensures { result ≡ first_failed (test_at (in_range line.now)) 0 (length (in_range line.now)) }
 {
-    match first_failed(&admitted(line)) {
-        Some(field) => Some(field as u32),
-        None => None,
-    }
+    first_failed(&admitted(line)).map(|field| field as u32)
 }
 
 // Whether the fields agree: a straight bar has neither mandrel nor pitch, any other has both; an anchorage has no share,
@@ -67,38 +79,36 @@ fn fields_agree(line: &BarLine) -> bool
     ensures { result ≡ agrees line.now }
 {
     let bend = if line.shape == 1 {
-        (line.mandrel == 0) & (line.pitch == 0)
+        line.mandrel == 0 && line.pitch == 0
     } else {
-        (1 <= line.mandrel) & (1 <= line.pitch)
+        1 <= line.mandrel && 1 <= line.pitch
     };
     let lap = if line.kind <= 2 {
-        (line.share == 0) & ((line.apart == 0) & (line.form == 0))
+        line.share == 0 && line.apart == 0 && line.form == 0
     } else {
-        (1 <= line.share) & (line.weld == 0)
+        1 <= line.share && line.weld == 0
     };
-    bend & lap
+    bend && lap
 }
 
-// Whether the stress is at most fyk/γs.
-fn is_borne<A: Annex>(annex: &A, situation: Situation, line: &BarLine) -> bool
-    ensures { result ≡ borne (A.means annex.now) situation line.now }
-{
-    let stress = line.stress as u64;
-    let strength = line.fyk as u64;
-    stress * annex.gs(situation) as u64 <= 1000 * strength
-}
+impl<A: Annex> BarBook<A> {
+    // Whether the stress is at most fyk/γs.
+    fn is_borne(&self, situation: Situation, line: &BarLine) -> bool
+        ensures { result ≡ borne (A.means self.now.annex) situation line.now }
+    {
+        let stress = u64::from(line.stress);
+        let strength = u64::from(line.fyk);
+        stress * u64::from(self.annex.gs(situation)) <= 1000 * strength
+    }
 
-// The test of a line.
-pub(crate) fn test_line<A: Annex>(
-    annex: &A,
-    situation: Situation,
-    line: &BarLine,
-) -> Result<(), LineFault>
-    ensures { result ≡ test_of (A.means annex.now) situation line.now }
-{
-    verdict(
-        first_out(line),
-        fields_agree(line),
-        is_borne(annex, situation, line),
-    )
+    // The test of a line.
+    pub(crate) fn test_line(&self, situation: Situation, line: &BarLine) -> Result<(), LineFault>
+        ensures { result ≡ test_of (A.means self.now.annex) situation line.now }
+    {
+        verdict(
+            first_out(line),
+            fields_agree(line),
+            self.is_borne(situation, line),
+        )
+    }
 }

@@ -8,6 +8,7 @@ use Rattle.eurocode.proofs.Rising.{diameter_within, area_rises}
 use Rattle.annex.specs.Numbers.{fields_of, recommended}
 use Rattle.annex.specs.Laws as laws
 use Rattle.annex.specs.Keeping.{ranged_decides, recommended_ranged}
+use Rattle.anchorage.specs.Bonds.{bond_number}
 use Rattle.anchorage.specs.Lengths.{figure}
 use Rattle.anchorage.specs.declared.Shape.TheVariants.{Straight}
 use Rattle.anchorage.proofs.Asking.{Longer}
@@ -19,11 +20,11 @@ use Rattle.bars.specs.Details.{detail_of, bar_of}
 use Rattle.bars.specs.Tests.{in_range, agrees, borne, test_of}
 use Rattle.bars.specs.Meaning.{bar_figure, bar_meaning}
 use Rattle.bars.specs.Passing.{ranged}
-use Rattle.curves.specs.declared.entries.Bond.{Bond}
-use Rattle.curves.specs.declared.entries.Bond.TheVariants.{Good, Other}
+use Rattle.anchorage.specs.declared.bonds.Bond.{Bond}
+use Rattle.anchorage.specs.declared.bonds.Bond.TheVariants.{Good, Other}
 use Rattle.curves.specs.declared.entries.Joint.{Joint}
 use Rattle.curves.specs.declared.entries.Joint.TheVariants.{Anchorage, Lap}
-use Rattle.curves.specs.Points.{bond_of, kind_of, share_of, entry_line, length_at, shared, on_curve, NoLess}
+use Rattle.curves.specs.Points.{kind_of, share_of, entry_line, length_at, shared, on_curve, NoLess}
 
 keeps : laws.Ranged (fields_of recommended)
 keeps = (ranged_decides (fields_of recommended)).0 recommended_ranged
@@ -40,7 +41,7 @@ kind_admitted : (joint : Joint) → within 1 4 (kind_of joint) ≡ true
 kind_admitted Anchorage = refl
 kind_admitted (Lap share) = refl
 
-bond_admitted : (bond : Bond) → within 1 2 (bond_of bond) ≡ true
+bond_admitted : (bond : Bond) → within 1 2 (bond_number bond) ≡ true
 bond_admitted Good = refl
 bond_admitted Other = refl
 

@@ -1,23 +1,14 @@
 -- The lines of the handbook's tables and curves, and their lengths under the recommended annex. Assumes nothing.
-use Rattle.std.specs.Prelude.{◌≡◌, ℕ, ◌*◌, ◌≤◌, Bool, true, cond, ◌&&◌, Some, None, Option, ◌==◌, nat_le}
+use Rattle.std.specs.Prelude.{◌≡◌, ℕ, ◌*◌, ◌≤◌, Bool, true, cond, ◌&&◌, Some, None, Option, nat_le}
 use Rattle.eurocode.specs.declared.Situation.TheVariants.{Persistent}
 use Rattle.annex.specs.Numbers.{recommended}
+use Rattle.anchorage.specs.Bonds.{bond_number}
+use Rattle.anchorage.specs.declared.bonds.Bond.{Bond}
 use Rattle.book.specs.Meaning.{figure_of}
 use Rattle.bars.specs.declared.lines.BarLine.{BarLine}
 use Rattle.bars.specs.Meaning.{bar_meaning}
-use Rattle.curves.specs.declared.entries.Bond.{Bond}
-use Rattle.curves.specs.declared.entries.Bond.TheVariants.{Good, Other}
 use Rattle.curves.specs.declared.entries.Joint.{Joint}
 use Rattle.curves.specs.declared.entries.Joint.TheVariants.{Anchorage, Lap}
-
--- the number of a bond in a bar line
-abbrev pub bond_of : Bond → ℕ
-bond_of Good = 1
-bond_of Other = 2
-
--- the bond of a number
-abbrev pub bond_numbered : ℕ → Option Bond
-bond_numbered n = cond (n == 1) (Some Good) (cond (n == 2) (Some Other) None)
 
 -- in tension
 abbrev pub kind_of : Joint → ℕ
@@ -38,7 +29,7 @@ entry_line joint φ fck bond stress = record {
   fck = fck;
   fyk = 500;
   stress = stress;
-  bond = bond_of bond;
+  bond = bond_number bond;
   shape = 1;
   gap = 2 * φ;
   side = φ;

@@ -5,5 +5,6 @@
 pub mod entries;
 pub mod points;
 
-pub use entries::{Bond, Entry, FULL_STRESS, Joint};
+pub use anchorage::{Bond, UnknownBond};
+pub use entries::{Entry, FULL_STRESS, Joint};
 pub use points::length;

@@ -19,7 +19,7 @@ fn is_shared(joint: Joint) -> bool
 {
     match joint {
         Joint::Anchorage => true,
-        Joint::Lap { share } => (1 <= share) & (share <= MOST_SHARE),
+        Joint::Lap { share } => (1..=MOST_SHARE).contains(&share),
     }
 }
 
@@ -38,7 +38,7 @@ fn line_of(entry: Entry, joint: Joint, stress: u32) -> BarLine
         fck: entry.strength.fck(),
         fyk: 500,
         stress,
-        bond: entry.bond.number(),
+        bond: u32::from(entry.bond),
         shape: 1,
         gap: 2 * dia,
         side: dia,

@@ -29,7 +29,7 @@ pub(crate) fn print(rt: &HostRuntime, entry: Entry) -> io::Result<()> {
     print_assumptions(rt)?;
     let dia = entry.diameter.mm();
     let fck = entry.strength.fck();
-    let bond = entry.bond.number();
+    let bond = u32::from(entry.bond);
     println!(rt; "this dia;{dia}")?;
     println!(rt; "this fck;{fck}")?;
     println!(rt; "this bond;{bond}")?;

@@ -23,7 +23,7 @@ fn entry_of(dia: &String, fck: &String, bond: &String) -> Option<Entry> {
     Some(Entry {
         diameter: Diameter::new(dia.as_str().parse::<u32>().ok()?)?,
         strength: Strength::new(fck.as_str().parse::<u32>().ok()?)?,
-        bond: Bond::new(bond.as_str().parse::<u32>().ok()?)?,
+        bond: Bond::try_from(bond.as_str().parse::<u32>().ok()?).ok()?,
     })
 }
 

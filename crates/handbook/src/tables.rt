@@ -21,7 +21,7 @@ pub(crate) fn print_assumptions(rt: &HostRuntime) -> io::Result<()> {
 }
 
 fn print_row(rt: &HostRuntime, entry: Entry) -> io::Result<()> {
-    let bond = entry.bond.number();
+    let bond = u32::from(entry.bond);
     let dia = entry.diameter.mm();
     let fck = entry.strength.fck();
     let anchorage = length(entry, Joint::Anchorage, FULL_STRESS).unwrap_or(0);

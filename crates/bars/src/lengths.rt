@@ -1,0 +1,64 @@
+// The length that an anchorage or a lap needs.
+ghost use Rattle.std.specs.Prelude.{◌≡◌, if◌then◌else◌};
+ghost use Rattle.measure.specs.Rounding.{ths, rounded};
+ghost use Rattle.anchorage.specs.Lengths.{lb, lbd, l0, figure};
+
+use crate::tested::TestedBar;
+use measure::div_up;
+
+impl TestedBar {
+    // The basic length, in hundredths of mm.
+    fn basic_length(&self) -> u64
+        ensures { result ≡ ths 100 (lb self.now.bar) }
+    {
+        let b = &self.bar;
+        let pull = b.dia * b.stress * b.gc;
+        let bond = self.eta1() * self.eta2() * b.act * b.fctk;
+        div_up(100_000 * pull, 9 * bond)
+    }
+
+    // The least part of the basic length that an anchorage keeps, in tenths.
+    fn least_part(&self) -> u64
+        ensures { result ≡ (if self.now.detail.tension then 3 else 6) }
+    {
+        if self.detail.tension { 3 } else { 6 }
+    }
+
+    // The length of an anchorage, in mm.
+    fn anchorage_length(&self) -> u64
+        ensures { result ≡ ths 1 (lbd rounded self.now.detail self.now.bar) }
+    {
+        let basic = self.basic_length();
+        let full = self.alpha1() * self.alpha235() * self.alpha4() * basic;
+        div_up(full, 10_000_000_000)
+            .max(div_up(self.least_part() * basic, 1000))
+            .max(10 * self.bar.dia)
+            .max(100)
+    }
+
+    // The length of a lap, in mm.
+    fn lap_length(&self) -> u64
+        ensures { result ≡ ths 1 (l0 rounded self.now.detail self.now.bar) }
+    {
+        let basic = self.basic_length();
+        let lapped = self.alpha6();
+        let all = div_up(self.alpha235() * lapped, 1_000_000);
+        let full = self.alpha1() * all * basic;
+        div_up(full, 1_000_000_000)
+            .max(div_up(3 * lapped * basic, 1_000_000_000))
+            .max(15 * self.bar.dia)
+            .max(200)
+    }
+
+    // The figure, in mm.
+    #[tactic(auto, using(anchorage::proofs::Computing::l0_top, anchorage::proofs::Computing::lbd_top), unfolding(anchorage::specs::Lengths::figure, anchorage::specs::Lengths::required))]
+    pub(crate) fn required_length(&self) -> u32
+        ensures { result ≡ figure self.now.detail self.now.bar }
+    {
+        if self.detail.lap {
+            self.lap_length() as u32
+        } else {
+            self.anchorage_length() as u32
+        }
+    }
+}
