@@ -1,136 +1,101 @@
 // The names of a bar line's fields, and lines as lists of numbers.
+ghost use Rattle.std.specs.Prelude.{◌≡◌, map, refl};
+ghost use Rattle.reader.proofs.Naming.{well_named};
 ghost use Rattle.book.specs.Fields.{names_of};
 ghost use Rattle.bars.specs.Lines.{bar_fields, numbers_of};
-ghost use Rattle.std.specs.Prelude.{◌≡◌, slice_index, refl};
-ghost use Rattle.bars.specs.Lines.{line_of};
-ghost use Rattle.reader.proofs.Naming.{well_named};
 ghost use Rattle.bars.specs.Listing.{lists};
 
 use crate::books::BarBook;
 use crate::lines::BarLine;
 use annex::Annex;
 use book::{Book, WrittenBook};
-use reader::{Named, number_at};
+use reader::Named;
 
 // How many fields a line has.
 const FIELDS: usize = 23;
 
-impl<A: Annex> Named for BarBook<A> {
+const NAMES: [&[u8]; FIELDS] = [
+    b"kind", b"dia", b"fck", b"fyk", b"stress", b"bond", b"shape", b"gap", b"side", b"cover",
+    b"trans", b"eff", b"member", b"weld", b"press", b"share", b"layers", b"apart", b"form", b"agg",
+    b"mandrel", b"pitch", b"length",
+];
+
+impl<A: Annex> Named<FIELDS> for BarBook<A> {
     ghost names = { λ _. names_of bar_fields };
 
-    ghost named = { λ b. well_named (names_of bar_fields) refl };
+    ghost counted = { λ _. refl };
 
-    fn field_count(&self) -> usize {
-        FIELDS
-    }
+    ghost named = { λ _. well_named (names_of bar_fields) refl };
 
-    fn field_name(&self, field: usize) -> &[u8] {
-        match field {
-            0 => b"kind",
-            1 => b"dia",
-            2 => b"fck",
-            3 => b"fyk",
-            4 => b"stress",
-            5 => b"bond",
-            6 => b"shape",
-            7 => b"gap",
-            8 => b"side",
-            9 => b"cover",
-            10 => b"trans",
-            11 => b"eff",
-            12 => b"member",
-            13 => b"weld",
-            14 => b"press",
-            15 => b"share",
-            16 => b"layers",
-            17 => b"apart",
-            18 => b"form",
-            19 => b"agg",
-            20 => b"mandrel",
-            21 => b"pitch",
-            22 => b"length",
-            _ => b"",
-        }
+    fn names(&self) -> &'static [&'static [u8]]
+        ensures { map (λ name. name.now) result.now ≡ names_of bar_fields }
+    {
+        &NAMES
     }
 }
 
-// The line of these numbers; a missing one counts as 0.
-fn line_of(fields: &[u32]) -> BarLine
-    ensures { result ≡ line_of fields.now }
-{
-    BarLine {
-        kind: number_at(fields, 0),
-        dia: number_at(fields, 1),
-        fck: number_at(fields, 2),
-        fyk: number_at(fields, 3),
-        stress: number_at(fields, 4),
-        bond: number_at(fields, 5),
-        shape: number_at(fields, 6),
-        gap: number_at(fields, 7),
-        side: number_at(fields, 8),
-        cover: number_at(fields, 9),
-        trans: number_at(fields, 10),
-        eff: number_at(fields, 11),
-        member: number_at(fields, 12),
-        weld: number_at(fields, 13),
-        press: number_at(fields, 14),
-        share: number_at(fields, 15),
-        layers: number_at(fields, 16),
-        apart: number_at(fields, 17),
-        form: number_at(fields, 18),
-        agg: number_at(fields, 19),
-        mandrel: number_at(fields, 20),
-        pitch: number_at(fields, 21),
-        provided: number_at(fields, 22),
-    }
-}
-
-// The number of a field, counted from 0; 0 past the last.
-fn number_of(line: &BarLine, field: usize) -> u32
-    ensures { result ≡ slice_index (numbers_of line.now) field }
-{
-    match field {
-        0 => line.kind,
-        1 => line.dia,
-        2 => line.fck,
-        3 => line.fyk,
-        4 => line.stress,
-        5 => line.bond,
-        6 => line.shape,
-        7 => line.gap,
-        8 => line.side,
-        9 => line.cover,
-        10 => line.trans,
-        11 => line.eff,
-        12 => line.member,
-        13 => line.weld,
-        14 => line.press,
-        15 => line.share,
-        16 => line.layers,
-        17 => line.apart,
-        18 => line.form,
-        19 => line.agg,
-        20 => line.mandrel,
-        21 => line.pitch,
-        22 => line.provided,
-        _ => 0,
-    }
-}
-
-impl<A: Annex> WrittenBook for BarBook<A> {
+impl<A: Annex> WrittenBook<FIELDS> for BarBook<A> {
     ghost numbers = { λ _ l. numbers_of l };
 
-    ghost listed = { λ b. lists };
+    ghost listed = { λ _. lists };
 
-    fn number(&self, line: &BarLine, field: usize) -> u32 {
-        number_of(line, field)
+    fn numbers(&self, line: &BarLine) -> [u32; FIELDS]
+        ensures { result ≡ numbers_of line.now }
+    {
+        [
+            line.kind,
+            line.dia,
+            line.fck,
+            line.fyk,
+            line.stress,
+            line.bond,
+            line.shape,
+            line.gap,
+            line.side,
+            line.cover,
+            line.trans,
+            line.eff,
+            line.member,
+            line.weld,
+            line.press,
+            line.share,
+            line.layers,
+            line.apart,
+            line.form,
+            line.agg,
+            line.mandrel,
+            line.pitch,
+            line.provided,
+        ]
     }
 
-    fn line(&self, fields: &[u32]) -> Option<BarLine> {
-        if fields.len() == FIELDS {
-            Some(line_of(fields))
-        } else {
-            None
+    fn line_of(&self, fields: &[u32; FIELDS]) -> BarLine
+        ensures { numbers_of result ≡ fields.now }
+    {
+        BarLine {
+            kind: fields[0],
+            dia: fields[1],
+            fck: fields[2],
+            fyk: fields[3],
+            stress: fields[4],
+            bond: fields[5],
+            shape: fields[6],
+            gap: fields[7],
+            side: fields[8],
+            cover: fields[9],
+            trans: fields[10],
+            eff: fields[11],
+            member: fields[12],
+            weld: fields[13],
+            press: fields[14],
+            share: fields[15],
+            layers: fields[16],
+            apart: fields[17],
+            form: fields[18],
+            agg: fields[19],
+            mandrel: fields[20],
+            pitch: fields[21],
+            provided: fields[22],
         }
     }
 }

@@ -1,17 +1,100 @@
 -- What an annex accepts. Assumes nothing.
-use Rattle.std.proofs.Common.{◌≡◌, ℕ, true, false, not, List, length, get_or, is_some, Some, None, Ok, Option, sym, refl, ap, ◌∙◌, arith, MatchResult}
+use Rattle.std.proofs.Common.{◌≡◌, ℕ, ◌+◌, ◌-◌, ◌<◌, ◌≤◌, Bool, true, false, not, ◌⊎◌, ⊎_elim, List, length, get_or, drop, min, is_some, Some, None, Ok, Option, MatchOption, sym, refl, ap, ◌∙◌, subst, arith, MatchResult}
+use Rattle.std.specs.List.{AllWithin, HoldsAt, zip}
+use Rattle.std.specs.Option.{option_map}
+use Rattle.std.proofs.lemmas.List.{get_or-drop, length-drop}
+use Rattle.std.proofs.lemmas.Slice.Zip.{length-zip, get_or-zip}
 use Rattle.std.proofs.lemmas.List.FromFn.{fill_by_all}
-use Rattle.std.proofs.lemmas.Bool.{and_parts, and_from, eq-eqb, both_ways}
+use Rattle.std.proofs.lemmas.Bool.{and_parts, and_from, and_left, and_right, le-leb, lt-leb, eq-eqb, both_ways, cases_order}
 use Rattle.refusal.specs.declared.Refusal.TheVariants.{AnnexRange, Falling}
 use Rattle.annex.specs.declared.numbers.Numbers.{Numbers}
-use Rattle.annex.specs.Numbers.{fields_of, numbers_of}
-use Rattle.annex.specs.Laws.{Ranged, Rising, first_out, first_fall, is_ranged, is_rising}
+use Rattle.annex.specs.Numbers.{ranges, fields_of, numbers_of}
+use Rattle.annex.specs.Laws.{Ranged, Rising, in_range, no_fall, Passes, FailsFirst, first_failed, first_out, first_fall, is_ranged, is_rising}
 use Rattle.national.specs.Acceptance.{refused_at, accepted_of, AcceptedLaw}
-use Rattle.annex.specs.Keeping.{ranged_decides, rising_decides}
+use Rattle.annex.specs.Keeping.{first_law, ranged_decides, rising_decides}
 
 -- 21 numbers are those that their fields list
 pub fields_numbers : (ns : List ℕ) → length ns ≡ 21 → fields_of (numbers_of ns) ≡ ns
 fields_numbers ns h = sym (fill_by_all (λ i. get_or ns i 0) ns 21 0 h (λ k _. refl))
+
+-- A search through a list, of which the p-th from 0 is the place i + p of a test, and the number from 1 of the first place
+-- that fails. Yes is what is searched for, and No what is passed over.
+module _ {A : Type 0} (test : ℕ → Bool) (i : ℕ) (all : List A) (d : A) (Yes No : A → Type 0) (fails : (k : ℕ) → k < length all → Yes (get_or all k d) → test (i + k) ≡ false) (passes : (k : ℕ) → k < length all → No (get_or all k d) → test (i + k) ≡ true) where
+  passed : (k m : ℕ) → i ≤ k → k < i + m → m ≤ length all → AllWithin No all 0 m → test k ≡ true
+  passed k m from below few none = let e : i + (k - i) ≡ k = omega (arith, from) in ap test (sym e) ∙ passes (k - i) (omega (arith, from, below, few)) (none (k - i) d (omega arith) (omega (arith, from, below)))
+
+  pub number_of_first : (r : Option ℕ) → MatchOption r (AllWithin No all 0 (length all)) (λ p. (p < length all) × HoldsAt Yes all p × AllWithin No all 0 p) → option_map (λ p. i + p + 1) r ≡ first_failed test i (length all)
+  number_of_first r h = by r (first_failed test i (length all)) h (first_law test i (length all))
+    where
+      by : (r o : Option ℕ) → MatchOption r (AllWithin No all 0 (length all)) (λ p. (p < length all) × HoldsAt Yes all p × AllWithin No all 0 p) → MatchOption o (Passes test i (length all)) (FailsFirst test i (length all)) → option_map (λ p. i + p + 1) r ≡ o
+      by None None h o = refl
+      by None (Some f) h o = absurd (both_ways (test (f - 1)) o.fails (passed (f - 1) (length all) (omega (arith, o.from)) (omega (arith, o.from, o.upto)) (omega arith) h))
+      by (Some p) None h o = absurd (both_ways (test (i + p)) (fails p h.0 (h.1 d)) (o (i + p) (omega arith) (omega (arith, h.0))))
+      by (Some p) (Some f) h o =
+          ⊎_elim
+          (λ e. ap Some (omega (arith, e, o.from)))
+          (⊎_elim (λ l. absurd (both_ways (test (f - 1)) o.fails (passed (f - 1) p (omega (arith, o.from)) l (omega (arith, h.0)) h.2))) (λ g. absurd (both_ways (test (i + p)) (fails p h.0 (h.1 d)) (o.before (i + p) (omega arith) g))))
+          (cases_order (f - 1) (i + p))
+
+-- a number in its range, or out of it
+abbrev pub In : (ℕ × ℕ) × ℕ → Type 0
+In p = (p.0.0 ≤ p.1) × (p.1 ≤ p.0.1)
+
+abbrev pub Out : (ℕ × ℕ) × ℕ → Type 0
+Out p = (p.1 < p.0.0) ⊎ (p.0.1 < p.1)
+
+-- a search for the first number out of its range
+pub out_found : (ns : List ℕ) → length ns ≡ 21 → (r : Option ℕ) → MatchOption r (AllWithin In (zip ranges ns) 0 (length (zip ranges ns))) (λ p. (p < length (zip ranges ns)) × HoldsAt Out (zip ranges ns) p × AllWithin In (zip ranges ns) 0 p) → option_map (λ p. 0 + p + 1) r ≡ first_out ns
+unfolding first_out
+out_found ns full r h = number_of_first (in_range ns) 0 (zip ranges ns) ((0, 0), 0) Out In fails passes r h ∙ ap (first_failed (in_range ns) 0) long
+  where
+    long : length (zip ranges ns) ≡ 21
+    long = length-zip ranges ns ∙ ap (min 21) full
+
+    at : (k : ℕ) → k < length (zip ranges ns) → get_or (zip ranges ns) k ((0, 0), 0) ≡ (get_or ranges (0 + k) (0, 0), get_or ns (0 + k) 0)
+    at k lt = let e : 0 + k ≡ k = omega arith in get_or-zip ranges ns k ((0, 0), 0) (omega (arith, long)) (omega (arith, long, full)) ∙ (λ i. (get_or ranges (sym e i) (0, 0), get_or ns (sym e i) 0))
+
+    fails : (k : ℕ) → k < length (zip ranges ns) → Out (get_or (zip ranges ns) k ((0, 0), 0)) → in_range ns (0 + k) ≡ false
+    fails k lt out = ⊎_elim (λ low. and_left _ _ (lt-leb _ _ low)) (λ high. and_right _ _ (lt-leb _ _ high)) (subst Out (at k lt) out)
+
+    passes : (k : ℕ) → k < length (zip ranges ns) → In (get_or (zip ranges ns) k ((0, 0), 0)) → in_range ns (0 + k) ≡ true
+    passes k lt within = let w = subst In (at k lt) within in and_from _ _ (le-leb _ _ w.0) (le-leb _ _ w.1)
+
+-- a multiple that is smaller than the one before it, or is not
+abbrev pub Falls : ℕ × ℕ → Type 0
+Falls p = p.1 < p.0
+
+abbrev pub Holds : ℕ × ℕ → Type 0
+Holds p = p.0 ≤ p.1
+
+-- each multiple but the last, with the next
+abbrev pub steps : List ℕ → List (ℕ × ℕ)
+steps ns = zip (drop 10 ns) (drop 11 ns)
+
+-- a search for the first multiple that falls
+pub fall_found : (ns : List ℕ) → length ns ≡ 21 → (r : Option ℕ) → MatchOption r (AllWithin Holds (steps ns) 0 (length (steps ns))) (λ p. (p < length (steps ns)) × HoldsAt Falls (steps ns) p × AllWithin Holds (steps ns) 0 p) → option_map (λ p. 11 + p + 1) r ≡ first_fall ns
+unfolding first_fall
+fall_found ns full r h = number_of_first (no_fall ns) 11 (steps ns) (0, 0) Falls Holds fails passes r h ∙ ap (first_failed (no_fall ns) 11) long
+  where
+    ten : length (drop 10 ns) ≡ 11
+    ten = omega (arith, length-drop 10 ns, full)
+
+    rest : length (drop 11 ns) ≡ 10
+    rest = omega (arith, length-drop 11 ns, full)
+
+    long : length (steps ns) ≡ 10
+    long = length-zip (drop 10 ns) (drop 11 ns) ∙ (λ i. min (ten i) (rest i))
+
+    at : (k : ℕ) → k < length (steps ns) → get_or (steps ns) k (0, 0) ≡ (get_or ns (11 + k - 1) 0, get_or ns (11 + k) 0)
+    at k lt =
+        let before : 10 + k ≡ 11 + k - 1 = omega arith in
+        get_or-zip (drop 10 ns) (drop 11 ns) k (0, 0) (omega (arith, long, ten)) (omega (arith, long, rest)) ∙ (λ i. ((get_or-drop 10 ns k 0 ∙ ap (λ j. get_or ns j 0) before) i, get_or-drop 11 ns k 0 i))
+
+    fails : (k : ℕ) → k < length (steps ns) → Falls (get_or (steps ns) k (0, 0)) → no_fall ns (11 + k) ≡ false
+    fails k lt falls = lt-leb _ _ (subst Falls (at k lt) falls)
+
+    passes : (k : ℕ) → k < length (steps ns) → Holds (get_or (steps ns) k (0, 0)) → no_fall ns (11 + k) ≡ true
+    passes k lt holds = le-leb _ _ (subst Holds (at k lt) holds)
 
 -- what is accepted has passed both tests
 granted : (ns : List ℕ) (n : Numbers) (out fall : Option ℕ) → Ok n ≡ refused_at AnnexRange out (refused_at Falling fall (Ok (numbers_of ns))) → (n ≡ numbers_of ns) × (not (is_some out) ≡ true) × (not (is_some fall) ≡ true)

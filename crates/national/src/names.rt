@@ -1,47 +1,32 @@
 // The names of an annex's numbers.
-ghost use Rattle.std.specs.Prelude.{length, get_or, refl};
+ghost use Rattle.std.specs.Prelude.{◌≡◌, map, refl};
 ghost use Rattle.annex.specs.Numbers.{annex_names};
 ghost use Rattle.reader.proofs.Naming.{well_named};
 
 use reader::Named;
 
+// How many numbers an annex has.
+pub(crate) const FIELDS: usize = 21;
+
+const NAMES: [&[u8]; FIELDS] = [
+    b"gc1", b"gc2", b"gs1", b"gs2", b"act", b"acc", b"k1", b"k2", b"km", b"ks", b"m6", b"m8",
+    b"m10", b"m12", b"m14", b"m16", b"m20", b"m25", b"m28", b"m32", b"m40",
+];
+
 // The fields of every annex text.
 #[derive(Clone, Copy)]
 pub struct AnnexFields;
 
-impl Named for AnnexFields {
+impl Named<FIELDS> for AnnexFields {
     ghost names = { λ _. annex_names };
 
-    ghost named = { λ x. well_named annex_names refl };
+    ghost counted = { λ _. refl };
 
-    fn field_count(&self) -> usize {
-        21
-    }
+    ghost named = { λ _. well_named annex_names refl };
 
-    fn field_name(&self, field: usize) -> &[u8] {
-        match field {
-            0 => b"gc1",
-            1 => b"gc2",
-            2 => b"gs1",
-            3 => b"gs2",
-            4 => b"act",
-            5 => b"acc",
-            6 => b"k1",
-            7 => b"k2",
-            8 => b"km",
-            9 => b"ks",
-            10 => b"m6",
-            11 => b"m8",
-            12 => b"m10",
-            13 => b"m12",
-            14 => b"m14",
-            15 => b"m16",
-            16 => b"m20",
-            17 => b"m25",
-            18 => b"m28",
-            19 => b"m32",
-            20 => b"m40",
-            _ => b"",
-        }
+    fn names(&self) -> &'static [&'static [u8]]
+        ensures { map (λ name. name.now) result.now ≡ annex_names }
+    {
+        &NAMES
     }
 }

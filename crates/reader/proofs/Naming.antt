@@ -1,12 +1,12 @@
 -- Names that pass one computed test can stand in a first line. Assumes nothing.
 use Rattle.std.proofs.Common.{◌≡◌, ℕ, zero, suc, ◌<◌, Bool, true, not, ◌&&◌, eqb, leb, List, [], ◌∷◌, length, get_or, sym, refl, ap, arith}
-use Rattle.std.proofs.lemmas.Bool.{and_parts, eqb-true, leb-true, not-true, not-false}
+use Rattle.std.proofs.lemmas.Bool.{and_parts, leb-true, not-true}
 use Rattle.std.proofs.lemmas.Bool.Decides.{Decides-not, Decides-eqb}
 use Rattle.std.proofs.ByRecursion.{Decides-by_and}
 use Rattle.std.specs.List.{AllByRecursion}
 use Rattle.text.specs.Texts.{Bytes, Lacks, Plain}
 use Rattle.reader.specs.Names.{WellNamed, Unlike, stands}
-use Rattle.reader.proofs.Tables.{place_some}
+use Rattle.reader.proofs.Tables.{place_some, none_from}
 
 -- all unlike
 abbrev all_unlike : List Bytes → Bool
@@ -14,7 +14,7 @@ all_unlike [] = true
 all_unlike (n ∷ ns) = not (stands n ns) && all_unlike ns
 
 fresh : (n : List ℕ) (ns : List Bytes) (j : ℕ) → not (stands n ns) ≡ true → j < length ns → n ≡ get_or ns j [] → ⊥
-fresh n ns j t lt e = place_some 1 n ns j (omega arith) lt (sym e) (eqb-true _ 0 (not-false _ (not-true _ t)))
+fresh n ns j t lt e = place_some 1 n ns j lt (sym e) (none_from _ (not-true _ t))
 
 unlike_from_test : (ns : List Bytes) → all_unlike ns ≡ true → Unlike ns
 unlike_from_test [] t i j li lj e = absurd (omega arith)

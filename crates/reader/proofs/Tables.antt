@@ -1,20 +1,18 @@
 -- The names of a header, one by one, and the table of their places. Assumes nothing.
-use Rattle.std.proofs.Common.{◌≡◌, ℕ, zero, suc, ◌+◌, ◌<◌, ◌≤◌, true, false, cond, not, ◌&&◌, eqb, List, [], ◌∷◌, ◌++◌, map, length, get_or, drop, set, replicate, Some, None, Ok, Err, sym, refl, ap, ◌∙◌, subst, ⊎_elim, arith}
+use Rattle.std.proofs.Common.{◌≡◌, ◌≢◌, ℕ, zero, suc, ◌+◌, ◌<◌, ◌≤◌, true, false, cond, not, ◌&&◌, List, [], ◌∷◌, ◌++◌, map, length, get_or, take, drop, set, replicate, is_some, Some, None, Ok, Err, Option, MatchOption, sym, refl, ap, ◌∙◌, subst, ⊎_elim, arith}
+use Rattle.std.specs.Borrow.{Bor}
+use Rattle.std.specs.List.{AllWithin, HoldsAt}
+use Rattle.std.specs.Option.{ok_or}
 use Rattle.std.specs.Str.{bytes_eq}
 use Rattle.std.proofs.lemmas.Slice.Eq.{bytes_eq-Decides}
-use Rattle.std.proofs.lemmas.List.{at_drop_more, same_lists, get_or-map, get_or-set_same, get_or-set_other, length-set, length-map, length_push}
-use Rattle.std.proofs.lemmas.Bool.{cases_Bool, cases_eq, cond-true, cond-false, cond_both, and_from, and_left, and_right, eq-eqb, ne_eqb, not_from_true, not_from_false, not-true, and_parts}
+use Rattle.std.proofs.lemmas.List.{append-nil, at_drop_more, at_drop_all, take_all, take_more_set, same_lists, get_or-map, get_or-set_same, get_or-set_other, length-set, length-map, length_push}
+use Rattle.std.proofs.lemmas.Bool.{cases_Bool, cases_eq, cond-true, cond-false, cond_both, and_from, and_left, and_right, not_from_true, false≢true}
 use Rattle.text.specs.Tokens.{this_line, later_lines, next_part, after_next}
+use Rattle.refusal.specs.declared.Refusal.{Refusal}
 use Rattle.refusal.specs.declared.Refusal.TheVariants.{Name, Missing}
 use Rattle.text.specs.Texts.{Bytes, Parts}
-use Rattle.reader.specs.Names.{Unlike, place_from, place_in, stands, all_placed, places_from, places_of}
-
--- all_placed
-pub placed_stops : (ps : List ℕ) (i : ℕ) → i < length ps → get_or ps i 0 ≡ 0 → false ≡ all_placed (drop i ps)
-placed_stops ps i lt e = sym (at_drop_more all_placed ps i 0 lt ∙ ap (λ p. not (eqb p 0) && all_placed (drop (i + 1) ps)) e)
-
-pub placed_more : (ps : List ℕ) (i : ℕ) → i < length ps → (get_or ps i 0 ≡ 0 → ⊥) → all_placed (drop (i + 1) ps) ≡ all_placed (drop i ps)
-placed_more ps i lt ne = sym (at_drop_more all_placed ps i 0 lt ∙ ap (λ b. not b && all_placed (drop (i + 1) ps)) (ne_eqb (get_or ps i 0) 0 ne))
+use Rattle.reader.specs.Names.{Unlike, Finds, place_from, place_in, stands, place_then, all_placed, places_from, places_of}
+use Rattle.reader.proofs.Turns.{behind, behind_more}
 
 -- a name's place
 same_true : (n h : List ℕ) → n ≡ h → bytes_eq n h ≡ true
@@ -23,84 +21,85 @@ same_true n h e = (bytes_eq-Decides n h).1 e
 same_false : (n h : List ℕ) → (n ≡ h → ⊥) → bytes_eq n h ≡ false
 same_false n h ne = ⊎_elim (λ t. absurd (ne ((bytes_eq-Decides n h).0 t))) (λ f. f) (cases_Bool (bytes_eq n h))
 
-place_none : (k : ℕ) (n : List ℕ) (ns : List Bytes) → ((i : ℕ) → i < length ns → get_or ns i [] ≡ n → ⊥) → place_from k n ns ≡ 0
+place_none : (k : ℕ) (n : List ℕ) (ns : List Bytes) → ((i : ℕ) → i < length ns → get_or ns i [] ≡ n → ⊥) → place_from k n ns ≡ None
 place_none k n [] none = refl
 place_none k n (h ∷ ns) none = cond-false _ _ _ (same_false n h (λ e. none 0 (omega arith) (sym e))) ∙ place_none (k + 1) n ns (λ i lt e. none (suc i) (omega arith) e)
 
-pub place_some : (k : ℕ) (n : List ℕ) (ns : List Bytes) (i : ℕ) → 0 < k → i < length ns → get_or ns i [] ≡ n → place_from k n ns ≡ 0 → ⊥
-place_some k n [] i pos lt e z = omega arith
-place_some k n (h ∷ ns) zero pos lt e z = let w : k ≡ 0 = sym (cond-true _ _ _ (same_true n h (sym e))) ∙ z in omega arith
-place_some k n (h ∷ ns) (suc i) pos lt e z =
-    ⊎_elim (λ t. let w : k ≡ 0 = sym (cond-true _ _ _ t) ∙ z in omega arith) (λ f. place_some (k + 1) n ns i (omega arith) (omega arith) e (sym (cond-false _ _ _ f) ∙ z)) (cases_Bool (bytes_eq n h))
+pub apart : {X : Type 0} {x : X} → Some x ≡ None → ⊥
+apart e = let z : ◌≡◌ {A = ℕ} 0 1 = cc in omega arith
+
+pub same_some : {X : Type 0} {x y : X} → Some x ≡ Some y → x ≡ y
+same_some e = cc
+
+some_from : (o : Option ℕ) → (o ≡ None → ⊥) → is_some o ≡ true
+some_from None h = absurd (h refl)
+some_from (Some x) h = refl
+
+pub none_from : (o : Option ℕ) → is_some o ≡ false → o ≡ None
+none_from None h = refl
+none_from (Some x) h = absurd (false≢true (sym h))
+
+pub place_some : (k : ℕ) (n : List ℕ) (ns : List Bytes) (i : ℕ) → i < length ns → get_or ns i [] ≡ n → place_from k n ns ≡ None → ⊥
+place_some k n [] i lt e z = omega arith
+place_some k n (h ∷ ns) zero lt e z = apart (sym (cond-true _ _ _ (same_true n h (sym e))) ∙ z)
+place_some k n (h ∷ ns) (suc i) lt e z =
+    ⊎_elim (λ t. apart (sym (cond-true _ _ _ t) ∙ z)) (λ f. place_some (k + 1) n ns i (omega arith) e (sym (cond-false _ _ _ f) ∙ z)) (cases_Bool (bytes_eq n h))
 
 place_other : (k : ℕ) (n h : List ℕ) (hs : List Bytes) → (n ≡ h → ⊥) → place_from k n (hs ++ (h ∷ [])) ≡ place_from k n hs
 place_other k n h [] ne = cond-false _ _ _ (same_false n h ne)
-place_other k n h (x ∷ hs) ne = ap (cond (bytes_eq n x) k) (place_other (k + 1) n h hs ne)
+place_other k n h (x ∷ hs) ne = ap (cond (bytes_eq n x) (Some k)) (place_other (k + 1) n h hs ne)
 
-place_new : (k : ℕ) (n h : List ℕ) (hs : List Bytes) → 0 < k → n ≡ h → place_from k n hs ≡ 0 → place_from k n (hs ++ (h ∷ [])) ≡ k + length hs
-place_new k n h [] pos e z = cond-true _ _ _ (same_true n h e) ∙ omega arith
-place_new k n h (x ∷ hs) pos e z =
+place_new : (k : ℕ) (n h : List ℕ) (hs : List Bytes) → n ≡ h → place_from k n hs ≡ None → place_from k n (hs ++ (h ∷ [])) ≡ Some (k + length hs)
+place_new k n h [] e z = cond-true _ _ _ (same_true n h e) ∙ ap Some (omega arith)
+place_new k n h (x ∷ hs) e z =
     ⊎_elim
-    (λ t. let w : k ≡ 0 = sym (cond-true _ _ _ t) ∙ z in absurd (omega arith))
-    (λ f. cond-false _ _ _ f ∙ place_new (k + 1) n h hs (omega arith) e (sym (cond-false _ _ _ f) ∙ z) ∙ omega arith)
+    (λ t. absurd (apart (sym (cond-true _ _ _ t) ∙ z)))
+    (λ f. cond-false _ _ _ f ∙ place_new (k + 1) n h hs e (sym (cond-false _ _ _ f) ∙ z) ∙ ap Some (omega arith))
     (cases_Bool (bytes_eq n x))
 
 -- how many fields have a place
-abbrev pub placed_count : List ℕ → ℕ
+abbrev pub placed_count : List (Option ℕ) → ℕ
 placed_count [] = 0
-placed_count (p ∷ ps) = cond (eqb p 0) 0 1 + placed_count ps
+placed_count (p ∷ ps) = cond (is_some p) 1 0 + placed_count ps
 
 pub count_none : (ns : List Bytes) → placed_count (map (place_in []) ns) ≡ 0
 count_none [] = refl
 count_none (n ∷ ns) = omega (arith, count_none ns)
 
-count_set : (ps : List ℕ) (f v : ℕ) → f < length ps → get_or ps f 0 ≡ 0 → 0 < v → placed_count (set ps f v) ≡ placed_count ps + 1
-count_set [] f v lt z pos = absurd (omega arith)
-count_set (p ∷ ps) zero v lt z pos =
-    let old : cond {A = ℕ} (eqb p 0) 0 1 ≡ 0 = cond-true _ _ _ (eq-eqb p 0 z) in
-    let new : cond {A = ℕ} (eqb v 0) 0 1 ≡ 1 = cond-false _ _ _ (ne_eqb v 0 (λ e. omega arith)) in
-    omega arith
-count_set (p ∷ ps) (suc f) v lt z pos = omega (arith, count_set ps f v (omega arith) z pos)
+count_set : (ps : List (Option ℕ)) (f v : ℕ) → f < length ps → get_or ps f None ≡ None → placed_count (set ps f (Some v)) ≡ placed_count ps + 1
+count_set [] f v lt z = absurd (omega arith)
+count_set (p ∷ ps) zero v lt z = let old : cond {A = ℕ} (is_some p) 1 0 ≡ 0 = ap (λ o. cond (is_some o) 1 0) z in omega arith
+count_set (p ∷ ps) (suc f) v lt z = omega (arith, count_set ps f v (omega arith) z)
 
-pub count_all : (ps : List ℕ) → all_placed ps ≡ true → placed_count ps ≡ length ps
-count_all [] t = refl
-count_all (p ∷ ps) t =
-    let h = and_parts (not (eqb p 0)) (all_placed ps) t in
-    let one : cond {A = ℕ} (eqb p 0) 0 1 ≡ 1 = cond-false _ _ _ (not-true _ h.0) in
-    omega (arith, count_all ps h.1)
-
-pub count_le : (ps : List ℕ) → placed_count ps ≤ length ps
+pub count_le : (ps : List (Option ℕ)) → placed_count ps ≤ length ps
 count_le [] = omega arith
-count_le (p ∷ ps) = let h = count_le ps in cond_both (eqb p 0) _ _ (λ n. n + placed_count ps ≤ suc (length ps)) (λ _. omega arith) (λ _. omega arith)
+count_le (p ∷ ps) = let h = count_le ps in cond_both (is_some p) _ _ (λ n. n + placed_count ps ≤ suc (length ps)) (λ _. omega arith) (λ _. omega arith)
 
 -- the names that stand before those of `lines` are `seen`
-pub record Placing (ns : List Bytes) (entry lines : List Parts) (places : List ℕ) (place : ℕ) : Type 0 where
+pub record Placing (ns : List Bytes) (entry lines : List Parts) (found : List (Option ℕ)) (place : ℕ) : Type 0 where
   pub seen : List Bytes
   pub count : place ≡ length seen
-  pub table : places ≡ map (place_in seen) ns
+  pub table : found ≡ map (place_in seen) ns
   pub left : places_from ns seen (this_line lines) ≡ places_of ns (this_line entry)
   pub placed : placed_count (map (place_in seen) ns) ≡ length seen
   pub later : later_lines lines ≡ later_lines entry
 
-zeros : (ns : List Bytes) → replicate (length ns) 0 ≡ map (place_in []) ns
-zeros [] = refl
-zeros (n ∷ ns) = ap (λ l. 0 ∷ l) (zeros ns)
+none_placed : (ns : List Bytes) → replicate (length ns) None ≡ map (place_in []) ns
+none_placed [] = refl
+none_placed (n ∷ ns) = ap (λ l. None ∷ l) (none_placed ns)
 
-pub placing_none : (ns : List Bytes) (entry : List Parts) (places : List ℕ) → places ≡ replicate (length ns) 0 → Placing ns entry entry places 0
-placing_none ns entry places e = record { seen = []; count = refl; table = e ∙ zeros ns; left = refl; placed = count_none ns; later = refl }
-
-apart : {p : List ℕ} → Some p ≡ None → ⊥
-apart e = let z : ◌≡◌ {A = ℕ} 0 1 = cc in omega arith
+pub placing_none : (ns : List Bytes) (entry : List Parts) (n : ℕ) → length ns ≡ n → Placing ns entry entry (replicate n None) 0
+placing_none ns entry n e = record { seen = []; count = refl; table = ap (λ k. replicate k None) (sym e) ∙ none_placed ns; left = refl; placed = count_none ns; later = refl }
 
 module _ (ns : List Bytes) (unlike : Unlike ns) (seen : List Bytes) (q : List ℕ) (field : ℕ) (lt : field < length ns) (is : get_or ns field [] ≡ q) where
   -- the table after a name that did not stand before
-  pub table_more : place_in seen q ≡ 0 → set (map (place_in seen) ns) field (length seen + 1) ≡ map (place_in (seen ++ (q ∷ []))) ns
+  pub table_more : place_in seen q ≡ None → set (map (place_in seen) ns) field (Some (length seen + 1)) ≡ map (place_in (seen ++ (q ∷ []))) ns
   table_more z =
       let new = place_in (seen ++ (q ∷ [])) in
       let old = map (place_in seen) ns in
-      let v = length seen + 1 in
+      let v = Some (length seen + 1) in
       let long = length-map ns (place_in seen) in
-      let here : (d : ℕ) → get_or (set old field v) field d ≡ get_or (map new ns) field d = λ d. get_or-set_same old field v d (omega arith) ∙ sym (get_or-map new ns field [] d lt ∙ ap new is ∙ place_new 1 q q seen (omega arith) refl z ∙ omega arith) in
+      let here : (d : Option ℕ) → get_or (set old field v) field d ≡ get_or (map new ns) field d = λ d. get_or-set_same old field v d (omega arith) ∙ sym (get_or-map new ns field [] d lt ∙ ap new is ∙ place_new 1 q q seen refl z ∙ ap Some (omega arith)) in
       same_lists _ _ (length-set old field v ∙ long ∙ sym (length-map ns new))
       (λ k d h.
       let kn : k < length ns = omega (arith, length-set old field v) in
@@ -110,55 +109,88 @@ module _ (ns : List Bytes) (unlike : Unlike ns) (seen : List Bytes) (q : List �
       (cases_eq k field))
 
   -- one field more has a place
-  pub count_more : place_in seen q ≡ 0 → placed_count (map (place_in seen) ns) ≡ length seen → placed_count (map (place_in (seen ++ (q ∷ []))) ns) ≡ length (seen ++ (q ∷ []))
+  pub count_more : place_in seen q ≡ None → placed_count (map (place_in seen) ns) ≡ length seen → placed_count (map (place_in (seen ++ (q ∷ []))) ns) ≡ length (seen ++ (q ∷ []))
   count_more z e =
-      let here : get_or (map (place_in seen) ns) field 0 ≡ 0 = get_or-map (place_in seen) ns field [] 0 lt ∙ ap (place_in seen) is ∙ z in
-      let more = count_set (map (place_in seen) ns) field (length seen + 1) (omega (arith, length-map ns (place_in seen))) here (omega arith) in
+      let here : get_or (map (place_in seen) ns) field None ≡ None = get_or-map (place_in seen) ns field [] None lt ∙ ap (place_in seen) is ∙ z in
+      let more = count_set (map (place_in seen) ns) field (length seen + 1) (omega (arith, length-map ns (place_in seen))) here in
       omega (arith, ap placed_count (table_more z), length_push seen q)
 
 -- so the place is never past the fields
-pub place_le : (ns : List Bytes) (entry lines : List Parts) (places : List ℕ) (place : ℕ) → Placing ns entry lines places place → place ≤ length ns
-place_le ns entry lines places place h = omega (arith, h.count, h.placed, count_le (map (place_in h.seen) ns), length-map ns (place_in h.seen))
+pub place_le : (ns : List Bytes) (entry lines : List Parts) (found : List (Option ℕ)) (place : ℕ) → Placing ns entry lines found place → place ≤ length ns
+place_le ns entry lines found place h = omega (arith, h.count, h.placed, count_le (map (place_in h.seen) ns), length-map ns (place_in h.seen))
 
 -- what the table has for a field is where its name stood before
-told : (ns seen : List Bytes) (places : List ℕ) (q : List ℕ) (field : ℕ) → places ≡ map (place_in seen) ns → field < length ns → get_or ns field [] ≡ q → get_or places field 0 ≡ place_in seen q
-told ns seen places q field e lt is = ap (λ t. get_or t field 0) e ∙ get_or-map (place_in seen) ns field [] 0 lt ∙ ap (place_in seen) is
+told : (ns seen : List Bytes) (found : List (Option ℕ)) (q : List ℕ) (field : ℕ) → found ≡ map (place_in seen) ns → field < length ns → get_or ns field [] ≡ q → get_or found field None ≡ place_in seen q
+told ns seen found q field e lt is = ap (λ t. get_or t field None) e ∙ get_or-map (place_in seen) ns field [] None lt ∙ ap (place_in seen) is
 
-pub placing_more : (ns : List Bytes) (entry lines after : List Parts) (places name : List (ℕ)) (place field : ℕ) → Unlike ns → Placing ns entry lines places place → Some name ≡ next_part lines → after ≡ after_next lines → (field < length ns) × (get_or ns field [] ≡ name) → get_or places field 0 ≡ 0 → Placing ns entry after (set places field (place + 1)) (place + 1)
-placing_more ns entry [] after places name place field u h e a f z = absurd (apart e)
-placing_more ns entry ([] ∷ ls) after places name place field u h e a f z = absurd (apart e)
-placing_more ns entry ((q ∷ ps) ∷ ls) after places name place field u h e a f z =
+pub placing_more : (ns : List Bytes) (entry lines after : List Parts) (found : List (Option ℕ)) (name : Bytes) (place field : ℕ) → Unlike ns → Placing ns entry lines found place → Some name ≡ next_part lines → after ≡ after_next lines → Finds name ns (Some field) → get_or found field None ≡ None → Placing ns entry after (set found field (Some (place + 1))) (place + 1)
+placing_more ns entry [] after found name place field u h e a f z = absurd (apart e)
+placing_more ns entry ([] ∷ ls) after found name place field u h e a f z = absurd (apart e)
+placing_more ns entry ((q ∷ ps) ∷ ls) after found name place field u h e a f z =
     let nq : name ≡ q = cc in
     let is : get_or ns field [] ≡ q = f.1 ∙ nq in
-    let new : place_in h.seen q ≡ 0 = sym (told ns h.seen places q field h.table f.0 is) ∙ z in
-    let known : stands q ns ≡ true = not_from_false _ (ne_eqb _ 0 (place_some 1 q ns field (omega arith) f.0 is)) in
-    let unseen : not (stands q h.seen) ≡ true = not_from_false _ (not_from_true _ (eq-eqb _ 0 new)) in
-    subst (λ t. Placing ns entry t (set places field (place + 1)) (place + 1)) (sym a)
+    let new : place_in h.seen q ≡ None = sym (told ns h.seen found q field h.table f.0 is) ∙ z in
+    let known : stands q ns ≡ true = some_from (place_in ns q) (place_some 1 q ns field f.0 is) in
+    let unseen : not (stands q h.seen) ≡ true = ap (λ o. not (is_some o)) new in
+    subst (λ t. Placing ns entry t (set found field (Some (place + 1))) (place + 1)) (sym a)
     (record {
       seen = h.seen ++ (q ∷ []);
       count = ap (λ n. n + 1) h.count ∙ sym (length_push h.seen q);
-      table = (λ i. set (h.table i) field (h.count i + 1)) ∙ table_more ns u h.seen q field f.0 is new;
+      table = (λ i. set (h.table i) field (Some (h.count i + 1))) ∙ table_more ns u h.seen q field f.0 is new;
       left = sym (cond-true _ _ _ (and_from _ _ known unseen)) ∙ h.left;
       placed = count_more ns u h.seen q field f.0 is new h.placed;
       later = h.later;
     })
 
-pub placing_unknown : (ns : List Bytes) (entry lines : List Parts) (places name : List ℕ) (place : ℕ) → Placing ns entry lines places place → Some name ≡ next_part lines → ((k : ℕ) → k < length ns → get_or ns k [] ≡ name → ⊥) → Err (Name (place + 1)) ≡ places_of ns (this_line entry)
-placing_unknown ns entry [] places name place h e f = absurd (apart e)
-placing_unknown ns entry ([] ∷ ls) places name place h e f = absurd (apart e)
-placing_unknown ns entry ((q ∷ ps) ∷ ls) places name place h e f =
-    let nq : name ≡ q = cc in
-    ap (λ n. Err (Name (n + 1))) h.count ∙ sym (cond-false _ _ _ (and_left _ _ (not_from_true _ (eq-eqb _ 0 (ap (λ n. place_from 1 n ns) (sym nq) ∙ place_none 1 name ns f))))) ∙ h.left
+-- a name that is unknown, or stood before
+pub placing_stops : (ns : List Bytes) (entry lines : List Parts) (found : List (Option ℕ)) (name : Bytes) (place : ℕ) (o : Option ℕ) → Placing ns entry lines found place → Some name ≡ next_part lines → Finds name ns o → ((field : ℕ) → o ≡ Some field → get_or found field None ≢ None) → Err (Name (place + 1)) ≡ places_of ns (this_line entry)
+placing_stops ns entry [] found name place o h e f z = absurd (apart e)
+placing_stops ns entry ([] ∷ ls) found name place o h e f z = absurd (apart e)
+placing_stops ns entry ((q ∷ ps) ∷ ls) found name place o h e f z = ap (λ n. Err (Name (n + 1))) h.count ∙ sym (cond-false _ _ _ (by o f z)) ∙ h.left
+  where
+    nq : name ≡ q
+    nq = cc
 
-pub placing_twice : (ns : List Bytes) (entry lines : List Parts) (places name : List ℕ) (place field : ℕ) → Placing ns entry lines places place → Some name ≡ next_part lines → (field < length ns) × (get_or ns field [] ≡ name) → (get_or places field 0 ≡ 0 → ⊥) → Err (Name (place + 1)) ≡ places_of ns (this_line entry)
-placing_twice ns entry [] places name place field h e f z = absurd (apart e)
-placing_twice ns entry ([] ∷ ls) places name place field h e f z = absurd (apart e)
-placing_twice ns entry ((q ∷ ps) ∷ ls) places name place field h e f z =
-    let nq : name ≡ q = cc in
-    let t = told ns h.seen places q field h.table f.0 (f.1 ∙ nq) in
-    ap (λ n. Err (Name (n + 1))) h.count ∙ sym (cond-false _ _ _ (and_right _ _ (not_from_true _ (not_from_false _ (ne_eqb _ 0 (λ w. z (t ∙ w))))))) ∙ h.left
+    by : (o : Option ℕ) → Finds name ns o → ((field : ℕ) → o ≡ Some field → get_or found field None ≢ None) → (stands q ns && not (stands q h.seen)) ≡ false
+    by None f z = and_left _ _ (ap is_some (ap (λ n. place_from 1 n ns) (sym nq) ∙ place_none 1 name ns f))
+    by (Some field) f z = and_right _ _ (not_from_true _ (some_from (place_in h.seen q) (λ w. z field refl (told ns h.seen found q field h.table f.0 (f.1 ∙ nq) ∙ w))))
 
-pub placing_all : (ns : List Bytes) (entry lines : List Parts) (places : List ℕ) (place : ℕ) → Placing ns entry lines places place → None ≡ next_part lines → cond (all_placed places) (Ok places) (Err Missing) ≡ places_of ns (this_line entry)
-placing_all ns entry [] places place h e = ap (λ t. cond (all_placed t) (Ok t) (Err Missing)) h.table ∙ h.left
-placing_all ns entry ([] ∷ ls) places place h e = ap (λ t. cond (all_placed t) (Ok t) (Err Missing)) h.table ∙ h.left
-placing_all ns entry ((p ∷ ps) ∷ ls) places place h e = absurd (apart (sym e))
+-- a field that has a place
+pub has_place : (found : List (Option ℕ)) (o : Option ℕ) (i : ℕ) → o ≡ Some i → is_some (get_or found i None) ≡ true → (j : ℕ) → o ≡ Some j → get_or found j None ≢ None
+has_place found o i is some j js none = let e : i ≡ j = same_some (sym is ∙ js) in false≢true (sym (ap (λ k. is_some (get_or found k None)) e ∙ ap is_some none) ∙ some)
+
+pub placing_all : (ns : List Bytes) (entry lines : List Parts) (found : List (Option ℕ)) (place : ℕ) → Placing ns entry lines found place → None ≡ next_part lines → all_placed found ≡ places_of ns (this_line entry)
+placing_all ns entry [] found place h e = ap all_placed h.table ∙ h.left
+placing_all ns entry ([] ∷ ls) found place h e = ap all_placed h.table ∙ h.left
+placing_all ns entry ((p ∷ ps) ∷ ls) found place h e = absurd (apart (sym e))
+
+-- the places of a table, one by one
+module _ (found : List (Option ℕ)) (places : List ℕ) (field : ℕ) (h : behind (take field places) (all_placed (drop field found)) ≡ all_placed found) where
+  here : field < length found → behind (take field places) (place_then (get_or found field None) (all_placed (drop (field + 1) found))) ≡ all_placed found
+  here lt = ap (behind (take field places)) (sym (at_drop_more all_placed found field None lt)) ∙ h
+
+  pub placed_more : (place : ℕ) → field < length found → field < length places → Ok place ≡ ok_or (get_or found field None) Missing → behind (take (field + 1) (set places field place)) (all_placed (drop (field + 1) found)) ≡ all_placed found
+  placed_more place lt room is =
+      let rest = all_placed (drop (field + 1) found) in
+      ap (λ xs. behind xs rest) (take_more_set places field place room) ∙ behind_more (take field places) place rest ∙ ap (λ o. behind (take field places) (place_then o rest)) (sym (some_ok (get_or found field None) place is)) ∙ here lt
+    where
+      some_ok : (o : Option ℕ) (p : ℕ) → Ok p ≡ ok_or o Missing → o ≡ Some p
+      some_ok None p e = absurd (let z : ◌≡◌ {A = ℕ} 0 1 = cc in omega arith)
+      some_ok (Some q) p e = cc
+
+  pub placed_stops : (e : Refusal) → field < length found → Err e ≡ ok_or (get_or found field None) Missing → Err Missing ≡ all_placed found
+  placed_stops e lt is = ap (λ o. behind (take field places) (place_then o (all_placed (drop (field + 1) found)))) (sym (none_err (get_or found field None) is)) ∙ here lt
+    where
+      none_err : (o : Option ℕ) → Err e ≡ ok_or o Missing → o ≡ None
+      none_err None k = refl
+      none_err (Some q) k = absurd (let z : ◌≡◌ {A = ℕ} 0 1 = cc in omega arith)
+
+  pub placed_all : length found ≤ field → length places ≤ field → Ok places ≡ all_placed found
+  placed_all past full = ap Ok (sym (append-nil places) ∙ ap (λ xs. xs ++ []) (sym (take_all field places full))) ∙ ap (behind (take field places)) (sym (at_drop_all all_placed found field past)) ∙ h
+
+-- the search for a name among the names
+pub finds : (name : Bytes) (borrowed : List (Bor Bytes)) (names : List Bytes) (r : Option ℕ) → MatchOption r (AllWithin (λ x. x.now ≢ name) borrowed 0 (length borrowed)) (λ i. (i < length borrowed) × HoldsAt (λ x. x.now ≡ name) borrowed i × AllWithin (λ x. x.now ≢ name) borrowed 0 i) → map (λ x. x.now) borrowed ≡ names → Finds name names r
+finds name [] names None h e = λ k lt _. omega (arith, ap length e)
+finds name (b ∷ bs) names None h e = λ k lt same. let long : length (b ∷ bs) ≡ length names = sym (length-map (b ∷ bs) (λ x. x.now)) ∙ ap length e in h k b (omega arith) (omega arith) (sym (get_or-map (λ x. x.now) (b ∷ bs) k b [] (omega arith)) ∙ ap (λ l. get_or l k []) e ∙ same)
+finds name [] names (Some i) h e = absurd (omega (arith, h.0))
+finds name (b ∷ bs) names (Some i) h e = (omega (arith, h.0, sym (length-map (b ∷ bs) (λ x. x.now)) ∙ ap length e), ap (λ l. get_or l i []) (sym e) ∙ get_or-map (λ x. x.now) (b ∷ bs) i b [] h.0 ∙ h.1 b)

@@ -1,5 +1,5 @@
 -- The values of a line, one by one, and their sorting by field. Assumes nothing.
-use Rattle.std.proofs.Common.{◌≡◌, ℕ, zero, suc, ◌+◌, ◌-◌, ◌<◌, ◌≤◌, true, leb, List, [], ◌∷◌, ◌++◌, length, get_or, take, set, Some, None, Ok, Err, Option, Result, sym, refl, ap, ◌∙◌, subst, add-zero, arith}
+use Rattle.std.proofs.Common.{◌≡◌, ℕ, zero, suc, ◌+◌, ◌<◌, ◌≤◌, true, leb, List, [], ◌∷◌, ◌++◌, length, get_or, take, set, Some, None, Ok, Err, Option, Result, sym, refl, ap, ◌∙◌, subst, add-zero, arith}
 use Rattle.std.proofs.lemmas.List.{append_assoc, append-nil, take_more_set, take_all, length-set}
 use Rattle.std.proofs.lemmas.Bool.{and_parts, and_from, leb-true, le-leb}
 use Rattle.std.specs.Option.{ok_or}
@@ -10,7 +10,7 @@ use Rattle.text.specs.Texts.{Bytes, Parts}
 use Rattle.text.specs.Tokens.{this_line, later_lines, next_part, after_next}
 use Rattle.text.specs.Values.{value_of}
 use Rattle.reader.specs.Places.{all_within}
-use Rattle.reader.specs.Lines.{value_then, values_from, values_of, by_field, line_of, line_then, lines_from}
+use Rattle.reader.specs.Lines.{value_then, values_from, line_of, line_then, lines_from}
 
 -- values in front of those that are still to come
 abbrev pub behind : List ℕ → Result (List ℕ) Refusal → Result (List ℕ) Refusal
@@ -22,11 +22,11 @@ pub record Reading (entry lines : List Parts) (values : List ℕ) (place : ℕ) 
   pub room : place + length (this_line lines) ≡ length values
   pub read : behind (take place values) (values_from (place + 1) (this_line lines)) ≡ values_from 1 (this_line entry)
 
-behind_none : (r : Result (List ℕ) Refusal) → behind [] r ≡ r
+pub behind_none : (r : Result (List ℕ) Refusal) → behind [] r ≡ r
 behind_none (Ok vs) = refl
 behind_none (Err e) = refl
 
-behind_more : (xs : List ℕ) (v : ℕ) (r : Result (List ℕ) Refusal) → behind (xs ++ (v ∷ [])) r ≡ behind xs (on_ok (λ vs. v ∷ vs) r)
+pub behind_more : (xs : List ℕ) (v : ℕ) (r : Result (List ℕ) Refusal) → behind (xs ++ (v ∷ [])) r ≡ behind xs (on_ok (λ vs. v ∷ vs) r)
 behind_more xs v (Ok vs) = ap Ok (append_assoc xs (v ∷ []) vs)
 behind_more xs v (Err e) = refl
 
@@ -49,6 +49,11 @@ reading_more entry ((q ∷ ps) ∷ ls) after values p place v h e a is =
       room = simp length-set (omega (arith, h.room));
       read = ap (λ xs. behind xs r) (take_more_set values place v long) ∙ behind_more (take place values) v r ∙ ap (λ o. behind (take place values) (value_then o (place + 1) r)) (sym (ap value_of (sym pq) ∙ is)) ∙ h.read;
     })
+
+pub reading_room : (entry lines : List Parts) (values : List ℕ) (p : Bytes) (place : ℕ) → Reading entry lines values place → Some p ≡ next_part lines → place < length values
+reading_room entry [] values p place h e = absurd (apart e)
+reading_room entry ([] ∷ ls) values p place h e = absurd (apart e)
+reading_room entry ((q ∷ ps) ∷ ls) values p place h e = omega (arith, h.room)
 
 pub reading_stops : (entry lines : List Parts) (values : List ℕ) (p : Bytes) (place : ℕ) → Reading entry lines values place → Some p ≡ next_part lines → value_of p ≡ None → Err (Form 0 (place + 1)) ≡ values_from 1 (this_line entry)
 reading_stops entry [] values p place h e is = absurd (apart e)
@@ -121,17 +126,7 @@ pub checking_all : (places : List ℕ) (entry lines : List Parts) (line : ℕ) �
 checking_all places entry [] line h le = ap Ok (omega arith) ∙ h.count
 checking_all places entry (l ∷ ls) line h le = absurd (omega (arith, h.total))
 
--- a line that was read, then sorted by field; the checker writes the front of a table with n - 0
-pub line_read : (n k : ℕ) (places values : List ℕ) (parts : Parts) → Ok values ≡ values_of k parts → k ≡ length (take n places) → Ok (by_field (take (n - 0) places) values) ≡ line_of (take n places) parts
-line_read n k places values parts read e =
-    let z : n - 0 ≡ n = omega arith in
-    ap (λ m. Ok (by_field (take m places) values)) z ∙ ap (on_ok (by_field (take n places))) (read ∙ ap (λ j. values_of j parts) e)
-
--- a refusal that is told its line, and what is no refusal
-pub told_stops : {X Y : Type 0} (f : X → Y) (r : Result X Refusal) (k : ℕ) (e : Refusal) → on_err (at_line k) r ≡ Err e → Err e ≡ on_err (at_line k) (on_ok f r)
-told_stops f (Ok x) k e h = absurd (let z : ◌≡◌ {A = ℕ} 0 1 = cc in omega arith)
-told_stops f (Err d) k e h = let same : e ≡ at_line k d = cc in ap Err same
-
+-- what is read is no refusal that was told its line
 pub told_goes : {X : Type 0} (r : Result X Refusal) (k : ℕ) (x : X) → on_err (at_line k) r ≡ Ok x → r ≡ Ok x
 told_goes (Ok y) k x h = h
 told_goes (Err d) k x h = absurd (let z : ◌≡◌ {A = ℕ} 0 1 = cc in omega arith)

@@ -1,10 +1,10 @@
 -- The names of fields, and where they stand in the first line of a text. Assumes nothing.
-use Rattle.std.specs.Prelude.{◌≡◌, ℕ, ◌+◌, ◌-◌, ◌<◌, ◌≤◌, Bool, true, cond, not, ◌&&◌, List, [], ◌∷◌, ◌++◌, map, length, Ok, Err, Option, Result, ◌==◌, ◌≢◌, slice_index_or}
-use Rattle.std.specs.Option as options
+use Rattle.std.specs.Prelude.{◌≡◌, ℕ, ◌+◌, ◌-◌, ◌<◌, ◌≤◌, Bool, cond, not, ◌&&◌, List, [], ◌∷◌, ◌++◌, map, length, is_some, Some, None, Ok, Err, Option, MatchOption, Result, ◌≢◌, slice_index_or}
 use Rattle.std.specs.List.{AllByRecursion}
 use Rattle.std.specs.Str.{bytes_eq}
 use Rattle.refusal.specs.declared.Refusal.{Refusal}
 use Rattle.refusal.specs.declared.Refusal.TheVariants.{Name, Missing}
+use Rattle.refusal.specs.Refusals.{on_ok}
 use Rattle.text.specs.Texts.{Bytes, Parts, Plain}
 
 -- no two of them are the same
@@ -30,27 +30,33 @@ StandsAt header place name = (1 ≤ place) × (place ≤ length header) × (slic
 
 -- the field of this name, counted from 0
 abbrev pub Finds : Bytes → List Bytes → Option ℕ → Type 0
-Finds name names r = options.MatchOption r ((k : ℕ) → k < length names → slice_index_or names k [] ≢ name) (λ i. (i < length names) × (slice_index_or names i [] ≡ name))
+Finds name names r = MatchOption r ((k : ℕ) → k < length names → slice_index_or names k [] ≢ name) (λ i. (i < length names) × (slice_index_or names i [] ≡ name))
 
--- the first place of a name in the header, counted from k; 0 where it does not stand there
-abbrev pub place_from : ℕ → Bytes → Parts → ℕ
-place_from k name [] = 0
-place_from k name (h ∷ hs) = cond (bytes_eq name h) k (place_from (k + 1) name hs)
+-- the first place of a name in the header, counted from k, if it stands there
+abbrev pub place_from : ℕ → Bytes → Parts → Option ℕ
+place_from k name [] = None
+place_from k name (h ∷ hs) = cond (bytes_eq name h) (Some k) (place_from (k + 1) name hs)
 
-abbrev pub place_in : Parts → Bytes → ℕ
+abbrev pub place_in : Parts → Bytes → Option ℕ
 place_in header name = place_from 1 name header
 
 abbrev pub stands : Bytes → Parts → Bool
-stands name header = not (place_in header name == 0)
+stands name header = is_some (place_in header name)
 
-abbrev pub all_placed : List ℕ → Bool
-all_placed [] = true
-all_placed (p ∷ ps) = not (p == 0) && all_placed ps
+-- a field's place in front of the others, or that its name is missing
+abbrev pub place_then : Option ℕ → Result (List ℕ) Refusal → Result (List ℕ) Refusal
+place_then None others = Err Missing
+place_then (Some place) others = on_ok (λ places. place ∷ places) others
+
+-- the places, if each field has one
+abbrev pub all_placed : List (Option ℕ) → Result (List ℕ) Refusal
+all_placed [] = Ok []
+all_placed (p ∷ ps) = place_then p (all_placed ps)
 
 -- the place of each name, where the names `seen` stand before these parts; else the first part that is unknown or was
 -- seen, and else that a name is missing
 abbrev pub places_from : List Bytes → Parts → Parts → Result (List ℕ) Refusal
-places_from names seen [] = cond (all_placed (map (place_in seen) names)) (Ok (map (place_in seen) names)) (Err Missing)
+places_from names seen [] = all_placed (map (place_in seen) names)
 places_from names seen (h ∷ hs) = cond (stands h names && not (stands h seen)) (places_from names (seen ++ (h ∷ [])) hs) (Err (Name (length seen + 1)))
 
 -- the place of each name in the header, or why it is none

@@ -1,7 +1,9 @@
-// What was learnt from a text's first line, and a line of its values. The calls are in modules below, since a struct's
-// invariant may not cite what is defined of that struct.
-ghost use Rattle.std.specs.Prelude.{◌≡◌, ◌≤◌, true, take};
+// What was learnt from a text's first line. The calls are in modules below, since a struct's invariant may not cite what is
+// defined of that struct.
+ghost use Rattle.std.specs.Prelude.{◌≡◌, ◌≤◌, true};
 ghost use Rattle.reader.specs.Places.{all_within};
+
+use std::alloc::AllocError;
 
 mod line;
 mod placing;
@@ -9,22 +11,17 @@ mod whole;
 
 pub use whole::check;
 
-// The most fields that names can be given to.
-pub const MOST_FIELDS: usize = 30;
-
-// For each field the place, from 1, at which its name stands in the first line.
-#[derive(Clone, Copy)]
-pub struct Header {
-    places: [u32; MOST_FIELDS],
-    fields: usize,
-    ghost few: { fields ≤ 30 },
-    ghost placed: { all_within fields (take fields places) ≡ true },
+// For each of N fields the place, from 1, at which its name stands in the first line.
+pub struct Header<const N: usize> {
+    places: [u32; N],
+    ghost few: { N ≤ 30 },
+    ghost placed: { all_within N places ≡ true },
 }
 
-// The numbers of one line, in the order of the fields.
-#[derive(Clone, Copy)]
-pub struct Fields {
-    numbers: [u32; MOST_FIELDS],
-    count: usize,
-    ghost few: { count ≤ 30 },
+impl<const N: usize> Clone for Header<N> {
+    fn clone(&self) -> Result<Header<N>, AllocError> {
+        Ok(*self)
+    }
 }
+
+impl<const N: usize> Copy for Header<N> {}

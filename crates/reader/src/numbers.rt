@@ -5,9 +5,5 @@ ghost use Rattle.std.specs.Prelude.{◌≡◌, slice_index};
 pub fn number_at(fields: &[u32], place: usize) -> u32
     ensures { result ≡ slice_index fields.now place }
 {
-    if place < fields.len() {
-        fields[place]
-    } else {
-        0
-    }
+    fields.get(place).copied().unwrap_or(0)
 }

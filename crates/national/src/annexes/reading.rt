@@ -1,15 +1,14 @@
 // How an annex is read from a text.
 ghost use Rattle.std.specs.Prelude.{◌≡◌, ℕ, List, [], ◌∷◌, IfErr, MatchResult};
 ghost use Rattle.refusal.specs.Refusals.{on_ok};
-ghost use Rattle.reader.specs.Headers.{numbers_in};
 ghost use Rattle.reader.specs.Says.{Says};
 ghost use Rattle.annex.specs.Numbers.{annex_names, numbers_of};
 ghost use Rattle.national.specs.Annexes.{means_of};
 ghost use Rattle.national.specs.Reading.{written_of, annex_of, Grants, BreaksFirst, Leaves};
 
 use crate::annexes::NationalAnnex;
-use crate::names::AnnexFields;
-use reader::{Fields, Header};
+use crate::names::{AnnexFields, FIELDS};
+use reader::Header;
 use refusal::{Located, Refusal};
 use text::Lexer;
 
@@ -17,8 +16,8 @@ use text::Lexer;
 const VALUE_LINE: u32 = 2;
 
 // The numbers that an annex text has on its one line of values, by field.
-fn written(text: &[u8]) -> Result<Fields, Refusal>
-    ensures { on_ok numbers_in result ≡ written_of text.now }
+fn written(text: &[u8]) -> Result<[u32; FIELDS], Refusal>
+    ensures { result ≡ written_of text.now }
 {
     let mut lexer = Lexer::open(text)?;
     let header = Header::read(&AnnexFields, &mut lexer)?;
@@ -37,6 +36,6 @@ impl NationalAnnex {
         ensures granted { MatchResult result (λ _. (ns : List ℕ) × Grants text.now ns × (means_of self.new ≡ numbers_of ns)) (λ _. (ns : List ℕ) → Grants text.now ns → ⊥) }
     {
         let fields = written(text)?;
-        self.set(fields.as_slice())
+        self.set(&fields)
     }
 }

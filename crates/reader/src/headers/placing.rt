@@ -1,81 +1,62 @@
 // The names in a text's first line, and the place of each.
-ghost use Rattle.std.specs.Prelude.{◌≡◌, length, Decides, MatchResult, OnOk};
+ghost use Rattle.std.specs.Prelude.{◌≡◌, MatchResult, OnOk};
 ghost use Rattle.refusal.specs.Refusals.{on_ok};
 ghost use Rattle.text.specs.Tokens.{ahead, this_line, later_lines};
 ghost use Rattle.reader.specs.Headers.{places_in};
 ghost use Rattle.reader.specs.Names.{Finds, all_placed, places_of};
 
-use crate::headers::{Header, MOST_FIELDS};
+use crate::headers::Header;
 use crate::names::Named;
 use refusal::Refusal;
 use text::Lexer;
 
-fn same(a: &[u8], b: &[u8]) -> bool
-    ensures { Decides result (a.now ≡ b.now) }
-{
-    a == b
-}
-
 // The field of this name.
-fn find<N: Named>(named: &N, name: &[u8]) -> Option<usize>
-    ensures { Finds name.now (N.names named.now) result }
+fn find<const N: usize, T: Named<N>>(named: &T, name: &[u8]) -> Option<usize>
+    ensures { Finds name.now (T.names named.now) result }
 {
-    for field in 0..named.field_count() {
-        if same(named.field_name(field), name) {
-            return Some(field);
-        }
-    }
-    None
+    named.names().iter().position(|known| *known == name)
 }
 
-// Whether each field has a place, which 0 is not.
-fn all_placed(places: &[u32]) -> bool
-    ensures { result ≡ all_placed places.now }
+// The place of each field, if each has one.
+fn all_placed<const N: usize>(found: &[Option<u32>; N]) -> Result<[u32; N], Refusal>
+    ensures { result ≡ all_placed found.now }
 {
-    for place in places {
-        if *place == 0 {
-            return false;
-        }
+    let mut places = [0; N];
+    for (field, place) in found.iter().enumerate() {
+        places[field] = place.ok_or(Refusal::Missing)?;
     }
-    true
+    Ok(places)
 }
 
-// Passes the first line, and notes for each field the place at which its name stands.
-fn place_names<N: Named>(named: &N, lexer: &mut Lexer, places: &mut [u32]) -> Result<(), Refusal>
-    requires table { length places.old ≡ length (N.names named.now) }
-    ensures places { on_ok (λ _. places.new) result ≡ places_of (N.names named.now) (this_line (ahead lexer.old)) }
+// Passes the first line, and finds for each field the place at which its name stands.
+fn place_names<const N: usize, T: Named<N>>(
+    named: &T,
+    lexer: &mut Lexer,
+) -> Result<[u32; N], Refusal>
+    ensures places { result ≡ places_of (T.names named.now) (this_line (ahead lexer.old)) }
     ensures rest { OnOk result (ahead lexer.new ≡ later_lines (ahead lexer.old)) }
 {
-    places.fill(0);
+    let mut found = [None; N];
     let mut place = 0;
     while let Some(name) = lexer.next_part() {
         place += 1;
-        let Some(field) = find(named, name) else {
-            return Err(Refusal::Name { place });
-        };
-        if places[field] != 0 {
-            return Err(Refusal::Name { place });
+        match find(named, name) {
+            Some(field) if found[field].is_none() => found[field] = Some(place),
+            _ => return Err(Refusal::Name { place }),
         }
-        places[field] = place;
     }
-    if all_placed(places) {
-        Ok(())
-    } else {
-        Err(Refusal::Missing)
-    }
+    all_placed(&found)
 }
 
-impl Header {
+impl<const N: usize> Header<N> {
     // Reads the first line of a text, and passes it; where it is refused, the lexer stays where it was.
-    pub fn read<N: Named>(named: &N, lexer: &mut Lexer) -> Result<Header, Refusal>
-        ensures places { on_ok places_in result ≡ places_of (N.names named.now) (this_line (ahead lexer.old)) }
+    pub fn read<T: Named<N>>(named: &T, lexer: &mut Lexer) -> Result<Header<N>, Refusal>
+        ensures places { on_ok places_in result ≡ places_of (T.names named.now) (this_line (ahead lexer.old)) }
         ensures after { MatchResult result (λ _. ahead lexer.new ≡ later_lines (ahead lexer.old)) (λ _. lexer.new ≡ lexer.old) }
     {
-        let fields = named.field_count();
-        let mut places = [0; MOST_FIELDS];
         let mut behind = *lexer;
-        place_names(named, &mut behind, &mut places[0..fields])?;
+        let places = place_names(named, &mut behind)?;
         *lexer = behind;
-        Ok(Header { places, fields })
+        Ok(Header { places })
     }
 }

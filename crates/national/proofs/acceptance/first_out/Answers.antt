@@ -1,19 +1,21 @@
-use Rattle.std.proofs.Common.{sym, refl, ◌∙◌}
-use Rattle.annex.specs.Laws.{in_range, first_out}
-use Rattle.annex.specs.Keeping.{first_more, first_stops, first_all}
+use Rattle.std.proofs.Common.{◌≡◌, ◌+◌, length, Some, sym, ap, ◌∙◌, arith, rules, tests}
+use Rattle.std.specs.Option.{option_map}
+use Rattle.std.proofs.lemmas.Iterator.{IsFirst-from_position, YieldsList-from_slice, YieldsList-from_zip}
+use Rattle.std.specs.List.{zip}
+use Rattle.annex.specs.Numbers.{ranges}
+use Rattle.national.proofs.Accepting.{Out, In, out_found}
 use Rattle.national.proofs.acceptance.first_out.Goals as goal
 
-pub loop-i-init : goal.loop-i-init
-unfolding first_out
-loop-i-init c = refl
-
-pub returns-then-not-is_in_range : goal.returns-then-not-is_in_range
-returns-then-not-is_in_range c =
-    sym (first_stops (in_range c.args.fields.now) c.loop-i.i 21 c.loop-i-test.true (sym c.if-not-is_in_range.ensures)) ∙ c.loop-i.invariant
-
-pub loop-i-preserved : goal.loop-i-preserved
-loop-i-preserved c =
-    sym (first_more (in_range c.args.fields.now) c.loop-i.i 21 c.loop-i-test.true (sym c.if-not-is_in_range.ensures)) ∙ c.loop-i.invariant
+pub returns-in_err-place : goal.returns-in_err-place
+returns-in_err-place c =
+    let ns = c.args.fields.now in
+    let full : length ns ≡ 21 = search rules in
+    let first = IsFirst-from_position {all = zip ranges ns} c.position.new.self _ _ Out In c.position.ensures.ran (YieldsList-from_zip {xs = ranges} {ys = ns} (YieldsList-from_slice ranges (search rules)) (YieldsList-from_slice ns (search rules))) (λ x q k. search (rules, tests)) (λ x q k. search (rules, tests)) in
+    c.from_residual.ensures ∙ sym (ap (option_map (λ p. 0 + p + 1)) c.in_err-place.was) ∙ out_found ns full c.position.result first
 
 pub returns : goal.returns
-returns c = sym (first_all (in_range c.args.fields.now) c.loop-i.i 21 c.loop-i-test.false) ∙ c.loop-i.invariant
+returns c =
+    let ns = c.args.fields.now in
+    let full : length ns ≡ 21 = search rules in
+    let first = IsFirst-from_position {all = zip ranges ns} c.position.new.self _ _ Out In c.position.ensures.ran (YieldsList-from_zip {xs = ranges} {ys = ns} (YieldsList-from_slice ranges (search rules)) (YieldsList-from_slice ns (search rules))) (λ x q k. search (rules, tests)) (λ x q k. search (rules, tests)) in
+    ap Some (omega arith) ∙ sym (ap (option_map (λ p. 0 + p + 1)) c.in_ok-place.was) ∙ out_found ns full c.position.result first

@@ -1,16 +1,12 @@
+use Rattle.std.proofs.Common.{◌≡◌, length, get_or, ap, ◌∙◌, refl, rules}
+use Rattle.std.proofs.lemmas.List.FromFn.{fill_by_all}
+use borrow.Rule.Slice.PartMut.{mid_of}
+use Rattle.annex.specs.Numbers.{numbers_of}
 use Rattle.national.proofs.acceptance.numbers_from.Goals as goal
 
 pub returns : goal.returns
-returns c = λ i. record {
-  gc1 = c.number_at.ensures i;
-  gc2 = c.number_at-2.ensures i;
-  gs1 = c.number_at-3.ensures i;
-  gs2 = c.number_at-4.ensures i;
-  act = c.number_at-5.ensures i;
-  acc = c.number_at-6.ensures i;
-  k1 = c.number_at-7.ensures i;
-  k2 = c.number_at-8.ensures i;
-  km = c.number_at-9.ensures i;
-  ks = c.number_at-10.ensures i;
-  multiples = c.multiples_from.ensures i;
-}
+returns c =
+    let ns = c.args.fields.now in
+    let full : length ns ≡ 21 = search rules in
+    let multiples = c.copy_from_slice.ensures.after ∙ ap (mid_of 10 11) (fill_by_all (λ i. get_or ns i 0) ns 21 0 full (λ k _. refl)) in
+    ap (λ ms. record (numbers_of ns) { multiples = ms }) multiples

@@ -16,7 +16,7 @@ returns-in_err-fields c =
 
 pub returns : goal.returns
 returns c =
-    let e : accepted_of c.as_slice.result.now ≡ annex_of c.args.text.now = ap accepted_of c.as_slice.ensures ∙ ap (λ r. and_then r accepted_of) c.in_ok-fields.ensures in
+    let e : accepted_of c.in_ok-fields.fields ≡ annex_of c.args.text.now = ap (λ r. and_then r accepted_of) c.in_ok-fields.ensures in
     let is = c.set.ensures.answers ∙ ap (on_ok (λ _. tt)) e in
     let left = subst (λ o. Leaves o c.args.self.now c.set.new.self) e (set_leaves _ c.args.self.now c.set.new.self _ c.set.ensures.answers c.set.ensures.leaves) in
     record { answers = is; leaves = left; first = read_first _ _ is; granted = read_granted _ c.args.self.now c.set.new.self _ is left }

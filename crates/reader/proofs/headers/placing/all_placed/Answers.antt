@@ -1,14 +1,12 @@
-use Rattle.std.proofs.Common.{sym, ◌∙◌}
-use Rattle.std.proofs.lemmas.List.{at_drop_all}
-use Rattle.reader.specs.Names.{all_placed}
-use Rattle.reader.proofs.Tables.{placed_stops, placed_more}
+use Rattle.std.proofs.Common.{◌∙◌, arith}
+use Rattle.std.proofs.lemmas.List.{length-set}
+use Rattle.reader.proofs.Tables.{placed_more, placed_all}
 use Rattle.reader.proofs.headers.placing.all_placed.Goals as goal
 
-pub returns-then-place-eq0 : goal.returns-then-place-eq0
-returns-then-place-eq0 c = placed_stops _ _ c.loop-place-test.true c.if-place-eq0.true ∙ c.loop-place.invariant
-
-pub loop-place-preserved : goal.loop-place-preserved
-loop-place-preserved c = placed_more _ _ c.loop-place-test.true c.if-place-eq0.false ∙ c.loop-place.invariant
+pub loop-field-preserved : goal.loop-field-preserved
+loop-field-preserved g c =
+    let h = c.loop-field.invariant in
+    (length-set c.loop-field.places c.loop-field.field c.in_ok-places.field-0 ∙ h.0, placed_more c.args.found.now c.loop-field.places c.loop-field.field h.1 _ (omega (arith, c.loop-field-test.true)) (omega (arith, h.0, c.loop-field-test.true)) c.in_ok-places.ensures.value)
 
 pub returns : goal.returns
-returns c = sym (at_drop_all all_placed _ _ c.loop-place-test.false) ∙ c.loop-place.invariant
+returns g c = let h = c.loop-field.invariant in placed_all c.args.found.now c.loop-field.places c.loop-field.field h.1 (omega (arith, c.loop-field-test.false)) (omega (arith, h.0, c.loop-field-test.false))
