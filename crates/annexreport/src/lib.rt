@@ -2,7 +2,7 @@
 
 #![tactic(auto)]
 
-ghost use Rattle.std.specs.Prelude.{◌≡◌, ◌<◌, ◌≤◌, min, [], ◌∷◌, length, decimal, slice_index};
+ghost use Rattle.std.specs.Prelude.{◌≡◌, ◌≤◌, min, [], ◌∷◌, length, decimal};
 ghost use Rattle.text.specs.Texts.{line_text};
 ghost use Rattle.writer.specs.Wrote.{Wrote, laid_over};
 ghost use Rattle.annex.specs.Numbers.{fields_of};
@@ -59,8 +59,8 @@ fn write_outcome(w: &mut Writer, outcome: Result<Numbers, Refusal>)
 fn write_numbers(w: &mut Writer, numbers: &Numbers)
     ensures { Wrote (numbers_text numbers.now) w.old w.new }
 {
-    for field in 0..FIELDS {
-        write_line(w, AnnexFields.field_name(field), number_of(numbers, field));
+    for (name, n) in AnnexFields.names().iter().zip(&all_numbers(numbers)) {
+        write_line(w, name, *n);
     }
 }
 
@@ -72,28 +72,28 @@ fn write_line(w: &mut Writer, name: &[u8], n: u32)
     w.number_part(n, false);
 }
 
-// The number of a field, counted from 0.
-fn number_of(numbers: &Numbers, field: usize) -> u32
-    requires { field < 21 }
-    ensures { result ≡ slice_index (fields_of numbers.now) field }
+// The numbers in the order of their names.
+fn all_numbers(numbers: &Numbers) -> [u32; FIELDS]
+    ensures { result ≡ fields_of numbers.now }
 {
-    let factors = [
-        numbers.gc1,
-        numbers.gc2,
-        numbers.gs1,
-        numbers.gs2,
-        numbers.act,
-        numbers.acc,
-        numbers.k1,
-        numbers.k2,
-        numbers.km,
-        numbers.ks,
-    ];
-    if field < factors.len() {
-        factors[field]
-    } else {
-        numbers.multiples[field - factors.len()]
-    }
+    let Numbers {
+        gc1,
+        gc2,
+        gs1,
+        gs2,
+        act,
+        acc,
+        k1,
+        k2,
+        km,
+        ks,
+        multiples,
+    } = *numbers;
+    let [m6, m8, m10, m12, m14, m16, m20, m25, m28, m32, m40] = multiples;
+    [
+        gc1, gc2, gs1, gs2, act, acc, k1, k2, km, ks, m6, m8, m10, m12, m14, m16, m20, m25, m28,
+        m32, m40,
+    ]
 }
 
 // The names of a refusal's numbers, and the numbers below them.
