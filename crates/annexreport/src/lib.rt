@@ -2,7 +2,7 @@
 
 #![tactic(auto)]
 
-ghost use Rattle.std.specs.Prelude.{◌≡◌, ◌<◌, ◌≤◌, min, [], ◌∷◌, length, decimal, slice_index};
+ghost use Rattle.std.specs.Prelude.{◌≡◌, ◌≤◌, min, [], ◌∷◌, length, decimal};
 ghost use Rattle.text.specs.Texts.{line_text};
 ghost use Rattle.writer.specs.Wrote.{Wrote, laid_over};
 ghost use Rattle.annex.specs.Numbers.{fields_of};
@@ -13,7 +13,7 @@ use annex::{Annex, Numbers};
 use national::{AnnexFields, NationalAnnex};
 use reader::Named;
 use refusal::Refusal;
-use writer::Writer;
+use writer::{Ending, Writer};
 
 // A buffer of so many bytes holds every report of an annex.
 pub const MOST_REPORT: usize = 400;
@@ -59,8 +59,8 @@ fn write_outcome(w: &mut Writer, outcome: Result<Numbers, Refusal>)
 fn write_numbers(w: &mut Writer, numbers: &Numbers)
     ensures { Wrote (numbers_text numbers.now) w.old w.new }
 {
-    for field in 0..FIELDS {
-        write_line(w, AnnexFields.field_name(field), number_of(numbers, field));
+    for (name, n) in AnnexFields.names().iter().zip(&all_numbers(numbers)) {
+        write_line(w, name, *n);
     }
 }
 
@@ -68,32 +68,32 @@ fn write_numbers(w: &mut Writer, numbers: &Numbers)
 fn write_line(w: &mut Writer, name: &[u8], n: u32)
     ensures { Wrote (line_text (name.now ∷ decimal n ∷ [])) w.old w.new }
 {
-    w.text_part(name, true);
-    w.number_part(n, false);
+    w.part(name, Ending::Part);
+    w.part(n, Ending::Line);
 }
 
-// The number of a field, counted from 0.
-fn number_of(numbers: &Numbers, field: usize) -> u32
-    requires { field < 21 }
-    ensures { result ≡ slice_index (fields_of numbers.now) field }
+// The numbers in the order of their names.
+fn all_numbers(numbers: &Numbers) -> [u32; FIELDS]
+    ensures { result ≡ fields_of numbers.now }
 {
-    let factors = [
-        numbers.gc1,
-        numbers.gc2,
-        numbers.gs1,
-        numbers.gs2,
-        numbers.act,
-        numbers.acc,
-        numbers.k1,
-        numbers.k2,
-        numbers.km,
-        numbers.ks,
-    ];
-    if field < factors.len() {
-        factors[field]
-    } else {
-        numbers.multiples[field - factors.len()]
-    }
+    let Numbers {
+        gc1,
+        gc2,
+        gs1,
+        gs2,
+        act,
+        acc,
+        k1,
+        k2,
+        km,
+        ks,
+        multiples,
+    } = *numbers;
+    let [m6, m8, m10, m12, m14, m16, m20, m25, m28, m32, m40] = multiples;
+    [
+        gc1, gc2, gs1, gs2, act, acc, k1, k2, km, ks, m6, m8, m10, m12, m14, m16, m20, m25, m28,
+        m32, m40,
+    ]
 }
 
 // The names of a refusal's numbers, and the numbers below them.
@@ -102,10 +102,10 @@ fn write_refusal(w: &mut Writer, refusal: Refusal)
     ensures short { length (refusal_text refusal) ≤ 400 }
 {
     let (number, line, place) = refusal.numbers();
-    w.text_part(b"refused", true);
-    w.text_part(b"line", true);
-    w.text_part(b"place", false);
-    w.number_part(number, true);
-    w.number_part(line, true);
-    w.number_part(place, false);
+    w.part(b"refused".as_slice(), Ending::Part);
+    w.part(b"line".as_slice(), Ending::Part);
+    w.part(b"place".as_slice(), Ending::Line);
+    w.part(number, Ending::Part);
+    w.part(line, Ending::Part);
+    w.part(place, Ending::Line);
 }

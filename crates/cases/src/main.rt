@@ -8,10 +8,13 @@
 
 #![tactic(auto)]
 
+ghost use Rattle.std.specs.Prelude.{◌<◌, length};
+
 use annex::Annex;
 use eurocode::{Diameter, Situation, TabledSize};
 use national::{AnnexFields, NationalAnnex};
 use reader::check;
+use refusal::Refusal;
 use std::alloc::{AllocError, Global};
 use std::io;
 use std::io::{BufRead, BufReader};
@@ -23,15 +26,11 @@ const VALUES: &[u8] = b"150;120;115;100;100;100;10;5;4;75;4;4;4;4;4;4;7;7;7;7;7\
 
 const ZEROS: &[u8] = b"0;0;0;0;0;0;0;0;0;0;0;0;0;0;0;0;0;0;0;0;0\n";
 
-// The most lines of zeros that are added, or letters.
-const MOST_TURNS: usize = 65535;
-
 // Adds a text over and over, until there are so many bytes.
-fn fill(text: &mut Vec<u8>, more: &[u8], bytes: usize) -> Result<(), AllocError> {
-    for _ in 0..MOST_TURNS {
-        if text.len() >= bytes {
-            break;
-        }
+fn fill(text: &mut Vec<u8>, more: &[u8], bytes: usize) -> Result<(), AllocError>
+    requires { 0 < length more.now }
+{
+    while text.len() < bytes {
         text.extend_from_slice(more)?;
     }
     Ok(())
@@ -69,27 +68,24 @@ fn text_of(heap: Global, line: &[u8]) -> Result<Vec<u8>, AllocError> {
 
 // The multiple of the thickest bars.
 fn thickest(annex: &NationalAnnex) -> u32 {
-    match Diameter::new(40) {
-        Some(diameter) => annex.multiple(diameter),
-        None => 0,
-    }
+    Diameter::new(40).map_or(0, |diameter| annex.multiple(diameter))
+}
+
+// A refusal's three numbers.
+fn refused(heap: Global, refusal: Refusal) -> Result<String, AllocError> {
+    let (number, line, place) = refusal.numbers();
+    format!(in heap; "{number};{line};{place}")
 }
 
 // What a new text is answered, and what is in force then.
 fn answer(heap: Global, annex: &mut NationalAnnex, text: &[u8]) -> Result<String, AllocError> {
     let granted = match annex.read(text) {
         Ok(()) => format!(in heap; "granted")?,
-        Err(refusal) => {
-            let (number, line, place) = refusal.numbers();
-            format!(in heap; "{number};{line};{place}")?
-        }
+        Err(refusal) => refused(heap, refusal)?,
     };
     let lines = match check(&AnnexFields, text) {
         Ok(lines) => format!(in heap; "{lines} lines")?,
-        Err(refusal) => {
-            let (number, line, place) = refusal.numbers();
-            format!(in heap; "{number};{line};{place}")?
-        }
+        Err(refusal) => refused(heap, refusal)?,
     };
     let factor = annex.gc(Situation::Persistent);
     let multiple = thickest(annex);
