@@ -9,9 +9,11 @@ use Rattle.std.proofs.lemmas.Bool.{and_parts, and_from, and_left, and_right, le-
 use Rattle.refusal.specs.declared.Refusal.TheVariants.{AnnexRange, Falling}
 use Rattle.annex.specs.declared.numbers.Numbers.{Numbers}
 use Rattle.annex.specs.Numbers.{ranges, fields_of, numbers_of}
-use Rattle.annex.specs.Laws.{Ranged, Rising, in_range, no_fall, Passes, FailsFirst, first_failed, first_out, first_fall, is_ranged, is_rising}
+use Rattle.checklist.specs.Firsts.{Passes, FailsFirst, first_failed}
+use Rattle.annex.specs.Laws.{Ranged, Rising, in_range, no_fall, first_out, first_fall, is_ranged, is_rising}
 use Rattle.national.specs.Acceptance.{refused_at, accepted_of, AcceptedLaw}
-use Rattle.annex.specs.Keeping.{first_law, ranged_decides, rising_decides}
+use Rattle.checklist.proofs.Failing.{first_law}
+use Rattle.annex.specs.Keeping.{ranged_decides, rising_decides}
 
 -- 21 numbers are those that their fields list
 pub fields_numbers : (ns : List ℕ) → length ns ≡ 21 → fields_of (numbers_of ns) ≡ ns

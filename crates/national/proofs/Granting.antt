@@ -15,8 +15,9 @@ use Rattle.annex.specs.declared.numbers.Numbers.{Numbers}
 use Rattle.national.specs.declared.annexes.NationalAnnex.{NationalAnnex}
 use Rattle.national.specs.Annexes.{means_of}
 use Rattle.annex.specs.Numbers.{annex_names, numbers_of}
-use Rattle.annex.specs.Laws.{Ranged, Rising, in_range, no_fall, Passes, FailsFirst, first_out, first_fall}
-use Rattle.annex.specs.Keeping.{first_law}
+use Rattle.checklist.specs.Firsts.{Passes, FailsFirst}
+use Rattle.annex.specs.Laws.{Ranged, Rising, in_range, no_fall, first_out, first_fall}
+use Rattle.checklist.proofs.Failing.{first_law}
 use Rattle.national.specs.Acceptance.{refused_at, accepted_of, AcceptedLaw}
 use Rattle.national.specs.Reading.{and_then, only_line, written_of, annex_of, Grants, GrantedLaw, BreaksFirst, Leaves}
 use Rattle.national.proofs.Accepting.{accepted_law, accepted_keeps}

@@ -10,7 +10,8 @@ use Rattle.reader.specs.Says.{Says}
 use Rattle.annex.specs.declared.numbers.Numbers.{Numbers}
 use Rattle.national.specs.declared.annexes.NationalAnnex.{NationalAnnex}
 use Rattle.annex.specs.Numbers.{annex_names, numbers_of}
-use Rattle.annex.specs.Laws.{Ranged, Rising, in_range, no_fall, Passes, FailsFirst}
+use Rattle.checklist.specs.Firsts.{Passes, FailsFirst}
+use Rattle.annex.specs.Laws.{Ranged, Rising, in_range, no_fall}
 use Rattle.national.specs.Acceptance.{accepted_of}
 use Rattle.national.specs.Annexes.{means_of}
 
