@@ -1,12 +1,12 @@
 -- The first field that does not admit its number. Assumes nothing.
-use Rattle.std.proofs.Common.{◌≡◌, ℕ, ◌+◌, cond, not, List, [], ◌∷◌, length, Some, sym, refl, ap, ◌∙◌}
+use Rattle.std.proofs.Common.{◌≡◌, ℕ, ◌+◌, cond, not, List, [], ◌∷◌, map, length, Some, sym, refl, ap, ◌∙◌}
 use Rattle.std.specs.List.{position, position_from, zip}
 use Rattle.std.specs.Option.{option_map}
 use Rattle.std.proofs.lemmas.Iterator.Adapters.{position_from-zero}
 use Rattle.checklist.specs.Firsts.{first_failed, test_at}
 use Rattle.checklist.proofs.Failing.{first_position}
 use Rattle.fields.specs.declared.Field.{Field}
-use Rattle.fields.specs.Fields.{admits, admitted}
+use Rattle.fields.specs.Fields.{admits, admitted, names_of}
 use Rattle.fields.specs.Tables.{values_of, fields_of}
 
 zipped : (i : ℕ) (fs : List Field) (ns : List ℕ) → position_from (λ (p : Field × ℕ). not (admits (values_of p.0.values) p.1)) i (zip fs ns) ≡ position_from (λ t. not t) i (admitted (fields_of fs) ns)
@@ -17,3 +17,8 @@ zipped i (f ∷ fs) (n ∷ ns) = ap (cond (not (admits (values_of f.values) n)) 
 pub first_out_is : (fs : List Field) (ns : List ℕ) → option_map (λ k. k + 1) (position (λ (p : Field × ℕ). not (admits (values_of p.0.values) p.1)) (zip fs ns)) ≡ first_failed (test_at (admitted (fields_of fs) ns)) 0 (length (admitted (fields_of fs) ns))
 first_out_is fs ns =
     ap (option_map (λ k. k + 1)) (position_from-zero (λ (p : Field × ℕ). not (admits (values_of p.0.values) p.1)) (zip fs ns) ∙ zipped 0 fs ns ∙ sym (position_from-zero (λ t. not t) (admitted (fields_of fs) ns))) ∙ first_position (admitted (fields_of fs) ns)
+
+-- the names of a table's fields
+pub names_are : (fs : List Field) → names_of (fields_of fs) ≡ map (λ f. f.name.now) fs
+names_are [] = refl
+names_are (f ∷ fs) = ap (λ names. f.name.now ∷ names) (names_are fs)

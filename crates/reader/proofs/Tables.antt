@@ -1,6 +1,5 @@
 -- The names of a header, one by one, and the table of their places. Assumes nothing.
 use Rattle.std.proofs.Common.{◌≡◌, ◌≢◌, ℕ, zero, suc, ◌+◌, ◌<◌, ◌≤◌, true, false, cond, not, ◌&&◌, List, [], ◌∷◌, ◌++◌, map, length, get_or, take, drop, set, replicate, is_some, Some, None, Ok, Err, Option, MatchOption, sym, refl, ap, ◌∙◌, subst, ⊎_elim, arith}
-use Rattle.std.specs.Borrow.{Bor}
 use Rattle.std.specs.List.{AllWithin, HoldsAt}
 use Rattle.std.specs.Option.{ok_or}
 use Rattle.std.specs.Str.{bytes_eq}
@@ -188,9 +187,9 @@ module _ (found : List (Option ℕ)) (places : List ℕ) (field : ℕ) (h : behi
   pub placed_all : length found ≤ field → length places ≤ field → Ok places ≡ all_placed found
   placed_all past full = ap Ok (sym (append-nil places) ∙ ap (λ xs. xs ++ []) (sym (take_all field places full))) ∙ ap (behind (take field places)) (sym (at_drop_all all_placed found field past)) ∙ h
 
--- the search for a name among the names
-pub finds : (name : Bytes) (borrowed : List (Bor Bytes)) (names : List Bytes) (r : Option ℕ) → MatchOption r (AllWithin (λ x. x.now ≢ name) borrowed 0 (length borrowed)) (λ i. (i < length borrowed) × HoldsAt (λ x. x.now ≡ name) borrowed i × AllWithin (λ x. x.now ≢ name) borrowed 0 i) → map (λ x. x.now) borrowed ≡ names → Finds name names r
-finds name [] names None h e = λ k lt _. omega (arith, ap length e)
-finds name (b ∷ bs) names None h e = λ k lt same. let long : length (b ∷ bs) ≡ length names = sym (length-map (b ∷ bs) (λ x. x.now)) ∙ ap length e in h k b (omega arith) (omega arith) (sym (get_or-map (λ x. x.now) (b ∷ bs) k b [] (omega arith)) ∙ ap (λ l. get_or l k []) e ∙ same)
-finds name [] names (Some i) h e = absurd (omega (arith, h.0))
-finds name (b ∷ bs) names (Some i) h e = (omega (arith, h.0, sym (length-map (b ∷ bs) (λ x. x.now)) ∙ ap length e), ap (λ l. get_or l i []) (sym e) ∙ get_or-map (λ x. x.now) (b ∷ bs) i b [] h.0 ∙ h.1 b)
+-- the search for a name among what bears the names
+pub finds : {A : Type 0} (named : A → Bytes) (name : Bytes) (all : List A) (names : List Bytes) (r : Option ℕ) → MatchOption r (AllWithin (λ x. named x ≢ name) all 0 (length all)) (λ i. (i < length all) × HoldsAt (λ x. named x ≡ name) all i × AllWithin (λ x. named x ≢ name) all 0 i) → map named all ≡ names → Finds name names r
+finds named name [] names None h e = λ k lt _. omega (arith, ap length e)
+finds named name (b ∷ bs) names None h e = λ k lt same. let long : length (b ∷ bs) ≡ length names = sym (length-map (b ∷ bs) named) ∙ ap length e in h k b (omega arith) (omega arith) (sym (get_or-map named (b ∷ bs) k b [] (omega arith)) ∙ ap (λ l. get_or l k []) e ∙ same)
+finds named name [] names (Some i) h e = absurd (omega (arith, h.0))
+finds named name (b ∷ bs) names (Some i) h e = (omega (arith, h.0, sym (length-map (b ∷ bs) named) ∙ ap length e), ap (λ l. get_or l i []) (sym e) ∙ get_or-map named (b ∷ bs) i b [] h.0 ∙ h.1 b)

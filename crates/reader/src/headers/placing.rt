@@ -14,7 +14,7 @@ use text::Lexer;
 fn find<const N: usize, T: Named<N>>(named: &T, name: &[u8]) -> Option<usize>
     ensures { Finds name.now (T.names named.now) result }
 {
-    named.names().iter().position(|known| *known == name)
+    named.fields().iter().position(|field| field.name == name)
 }
 
 // The place of each field, if each has one.
@@ -40,10 +40,13 @@ fn place_names<const N: usize, T: Named<N>>(
     let mut place = 0;
     while let Some(name) = lexer.next_part() {
         place += 1;
-        match find(named, name) {
-            Some(field) if found[field].is_none() => found[field] = Some(place),
-            _ => return Err(Refusal::Name { place }),
+        let Some(field) = find(named, name) else {
+            return Err(Refusal::Name { place });
+        };
+        if found[field].is_some() {
+            return Err(Refusal::Name { place });
         }
+        found[field] = Some(place);
     }
     all_placed(&found)
 }
