@@ -1,11 +1,8 @@
 -- A bar line: its fields, their names and values, and the list of its numbers. Assumes nothing.
 use Rattle.std.specs.Prelude.{ℕ, List, [], ◌∷◌, codes, slice_index}
 use Rattle.eurocode.specs.Tables.{diameters, strengths}
-use Rattle.book.specs.Fields.{Field, Values, up_to, between, one_of}
+use Rattle.fields.specs.Fields.{Field, field, up_to, between, one_of}
 use Rattle.bars.specs.declared.lines.BarLine.{BarLine}
-
-abbrev pub field : List ℕ → Values → Field
-field name values = record { name = name; values = values }
 
 -- lengths in mm, areas in tenths of mm², stresses in tenths of MPa, strengths in MPa
 abbrev pub bar_fields : List Field

@@ -4,7 +4,8 @@ use Rattle.eurocode.specs.declared.Situation.{Situation}
 use Rattle.annex.specs.declared.numbers.Numbers.{Numbers}
 use Rattle.annex.specs.Numbers.{gs_of}
 use Rattle.book.specs.declared.faults.LineFault.{LineFault}
-use Rattle.book.specs.Fields.{admitted, tested}
+use Rattle.fields.specs.Fields.{admitted}
+use Rattle.book.specs.Fields.{tested}
 use Rattle.bars.specs.declared.lines.BarLine.{BarLine}
 use Rattle.bars.specs.Lines.{bar_fields, numbers_of}
 

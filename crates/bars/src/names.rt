@@ -1,7 +1,8 @@
 // The names of a bar line's fields, and lines as lists of numbers.
-ghost use Rattle.std.specs.Prelude.{◌≡◌, map, refl};
+ghost use Rattle.std.specs.Prelude.{◌≡◌, refl};
 ghost use Rattle.reader.proofs.Naming.{well_named};
-ghost use Rattle.book.specs.Fields.{names_of};
+ghost use Rattle.fields.specs.Fields.{names_of};
+ghost use Rattle.fields.specs.Tables.{fields_of};
 ghost use Rattle.bars.specs.Lines.{bar_fields, numbers_of};
 ghost use Rattle.bars.specs.Listing.{lists};
 
@@ -9,15 +10,115 @@ use crate::books::BarBook;
 use crate::lines::BarLine;
 use annex::Annex;
 use book::{Book, WrittenBook};
+use eurocode::{DIAMETERS, STRENGTHS};
+use fields::{Field, Values};
 use reader::Named;
 
 // How many fields a line has.
 const FIELDS: usize = 23;
 
-const NAMES: [&[u8]; FIELDS] = [
-    b"kind", b"dia", b"fck", b"fyk", b"stress", b"bond", b"shape", b"gap", b"side", b"cover",
-    b"trans", b"eff", b"member", b"weld", b"press", b"share", b"layers", b"apart", b"form", b"agg",
-    b"mandrel", b"pitch", b"length",
+// The fields of a bar line. Lengths are in mm, areas in tenths of mm², stresses in tenths of MPa, strengths in MPa.
+const BAR_FIELDS: &[Field] = &[
+    // Anchorage in tension, in compression, lap in tension, in compression.
+    Field {
+        name: b"kind",
+        values: Values::Between(1, 4),
+    },
+    Field {
+        name: b"dia",
+        values: Values::OneOf(&DIAMETERS),
+    },
+    Field {
+        name: b"fck",
+        values: Values::OneOf(&STRENGTHS),
+    },
+    Field {
+        name: b"fyk",
+        values: Values::Between(400, 600),
+    },
+    Field {
+        name: b"stress",
+        values: Values::UpTo(6000),
+    },
+    // Good, other.
+    Field {
+        name: b"bond",
+        values: Values::Between(1, 2),
+    },
+    // Straight, bend or hook, loop.
+    Field {
+        name: b"shape",
+        values: Values::Between(1, 3),
+    },
+    Field {
+        name: b"gap",
+        values: Values::UpTo(1000),
+    },
+    Field {
+        name: b"side",
+        values: Values::UpTo(1000),
+    },
+    Field {
+        name: b"cover",
+        values: Values::UpTo(1000),
+    },
+    Field {
+        name: b"trans",
+        values: Values::UpTo(500_000),
+    },
+    // K, in hundredths.
+    Field {
+        name: b"eff",
+        values: Values::OneOf(&[0, 5, 10]),
+    },
+    // Beam, slab.
+    Field {
+        name: b"member",
+        values: Values::Between(1, 2),
+    },
+    // None, or a tabled diameter.
+    Field {
+        name: b"weld",
+        values: Values::OneOf(&[0, 6, 8, 10, 12, 14, 16, 20, 25, 28, 32, 40]),
+    },
+    Field {
+        name: b"press",
+        values: Values::UpTo(200),
+    },
+    Field {
+        name: b"share",
+        values: Values::UpTo(100),
+    },
+    // One, several.
+    Field {
+        name: b"layers",
+        values: Values::Between(1, 2),
+    },
+    Field {
+        name: b"apart",
+        values: Values::UpTo(1000),
+    },
+    // 1 links or U bars, 0 other.
+    Field {
+        name: b"form",
+        values: Values::UpTo(1),
+    },
+    Field {
+        name: b"agg",
+        values: Values::Between(4, 63),
+    },
+    Field {
+        name: b"mandrel",
+        values: Values::UpTo(2000),
+    },
+    Field {
+        name: b"pitch",
+        values: Values::UpTo(2000),
+    },
+    Field {
+        name: b"length",
+        values: Values::UpTo(20_000),
+    },
 ];
 
 impl<A: Annex> Named<FIELDS> for BarBook<A> {
@@ -27,10 +128,12 @@ impl<A: Annex> Named<FIELDS> for BarBook<A> {
 
     ghost named = { λ _. well_named (names_of bar_fields) refl };
 
-    fn names(&self) -> &'static [&'static [u8]]
-        ensures { map (λ name. name.now) result.now ≡ names_of bar_fields }
+    #[tactic(auto, unfolding(eurocode::specs::Tables::diameters, eurocode::specs::Tables::strengths))]
+    fn fields(&self) -> &'static [Field]
+        ensures names { names_of (fields_of result.now) ≡ names_of bar_fields }
+        ensures fields { fields_of result.now ≡ bar_fields }
     {
-        &NAMES
+        BAR_FIELDS
     }
 }
 

@@ -1,36 +1,8 @@
--- Which values a field may have, and the test of a line: each field in order, then how the fields agree, then the stress.
--- Assumes nothing.
-use Rattle.std.specs.Prelude.{◌≡◌, ℕ, Bool, true, false, cond, List, [], ◌∷◌, map, length, Some, None, Ok, Err, Option, Result, nat_le}
-use Rattle.text.specs.Texts.{Bytes}
-use Rattle.eurocode.specs.Tables.{tabled}
-use Rattle.checklist.specs.Firsts.{Passes, FailsFirst, first_failed, test_at, within}
+-- The test of a line: each field in order, then how the fields agree, then the stress. Assumes nothing.
+use Rattle.std.specs.Prelude.{◌≡◌, ℕ, Bool, true, false, cond, List, length, Some, None, Ok, Err, Option, Result}
+use Rattle.checklist.specs.Firsts.{Passes, FailsFirst, first_failed, test_at}
 use Rattle.book.specs.declared.faults.LineFault.{LineFault}
 use Rattle.book.specs.declared.faults.LineFault.TheVariants.{Range, Contradiction, Overstressed}
-
--- the values of a field: at most so much, from a least to a greatest, or just those of a list
-pub data Values : Type 0 where
-  up_to : ℕ → Values
-  between : ℕ → ℕ → Values
-  one_of : List ℕ → Values
-
-abbrev pub admits : Values → ℕ → Bool
-admits (up_to most) n = nat_le n most
-admits (between least most) n = within least most n
-admits (one_of ns) n = tabled n ns
-
--- a field of a written book: its name and its values
-pub record Field : Type 0 where
-  pub name : Bytes
-  pub values : Values
-
-abbrev pub names_of : List Field → List Bytes
-names_of fields = map (λ f. f.name) fields
-
--- whether each field admits its number, in the order of the fields
-abbrev pub admitted : List Field → List ℕ → List Bool
-admitted [] ns = []
-admitted (f ∷ fs) [] = []
-admitted (f ∷ fs) (n ∷ ns) = admits f.values n ∷ admitted fs ns
 
 -- the test of a line by three: its fields, whether they agree, and whether the stress can be borne
 abbrev pub tested_as : Option ℕ → Bool → Bool → Result (Unit {0}) LineFault

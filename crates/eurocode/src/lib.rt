@@ -10,7 +10,7 @@ mod situations;
 mod tables;
 
 pub use situations::UnknownSituation;
-pub use tables::TabledSize;
+pub use tables::{DIAMETERS, STRENGTHS, TabledSize};
 
 // A bar's diameter, by its row in the table, so that every value is a tabled one.
 #[derive(Clone, Copy)]

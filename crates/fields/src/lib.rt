@@ -2,7 +2,7 @@
 
 #![tactic(auto)]
 
-ghost use Rattle.std.specs.Prelude.{◌≡◌, ◌<◌, length, not, position, IfSome};
+ghost use Rattle.std.specs.Prelude.{◌≡◌, ◌<◌, ◌≤◌, length, not, position, IfSome};
 ghost use Rattle.std.specs.List.{zip};
 ghost use Rattle.checklist.specs.Firsts.{first_failed, test_at};
 ghost use Rattle.fields.specs.Fields.{admits, admitted};
@@ -51,7 +51,8 @@ fn place_of_first(fields: &[Field], numbers: &[u32]) -> Option<usize>
 
 // The first field that does not admit its number, counted from 1.
 pub fn first_out(fields: &[Field], numbers: &[u32]) -> Option<usize>
-    ensures { result ≡ first_failed (test_at (admitted (fields_of fields.now) numbers.now)) 0 (length (admitted (fields_of fields.now) numbers.now)) }
+    ensures value { result ≡ first_failed (test_at (admitted (fields_of fields.now) numbers.now)) 0 (length (admitted (fields_of fields.now) numbers.now)) }
+    ensures within { IfSome result (λ field. field ≤ length fields.now) }
 {
     place_of_first(fields, numbers).map(|place| place + 1)
 }
