@@ -1,9 +1,6 @@
-use Rattle.std.proofs.Common.{◌∙◌, mul-le-mul, arith}
+use Rattle.std.proofs.Common.{◌∙◌}
 use Rattle.anchorage.proofs.Computing.{α3_lap, α3_beam, α3_slab}
 use Rattle.bars.proofs.tested.TestedBar.alpha3.Goals as goal
-
-pub by_surplus-requires : goal.by_surplus-requires
-by_surplus-requires c = record { few = omega (arith, mul-le-mul c.args.self.now.ranged.stress_high c.args.self.now.ranged.gs_high); some = omega (arith, c.args.self.now.ranged.fyk_low); fine = omega (arith, c.args.self.now.ranged.fyk_high) }
 
 pub returns-then-self : goal.returns-then-self
 returns-then-self c = c.by_surplus.ensures ∙ α3_lap c.args.self.now.detail c.args.self.now.bar c.args.self.now.ranged c.if-self.true
