@@ -1,5 +1,5 @@
 -- What a program computes on numerators over common denominators, by the formulas. Assumes nothing.
-use Rattle.std.proofs.Common.{◌≡◌, ℕ, ◌+◌, ◌-◌, ◌*◌, ◌<◌, ◌≤◌, max, Bool, true, false, cond, leb, sym, refl, ap, ◌∙◌, ap₂, le_trans, le_of_eq, mul-pos, one-mul, arith, lit<, lit≤}
+use Rattle.std.proofs.Common.{◌≡◌, ℕ, ◌+◌, ◌-◌, ◌*◌, ◌<◌, ◌≤◌, max, true, false, cond, leb, sym, refl, ap, ◌∙◌, ap₂, le_trans, le_of_eq, mul-pos, one-mul, arith, lit<}
 use native.Mathlib.Nat.{max_comm}
 use Rattle.std.proofs.lemmas.Bool.Decides.{nat_tests}
 use Rattle.measure.specs.Fractions.{Fraction, ◌over◌, whole, tenths, ◌·◌, ◌÷◌, ◌less◌, ◌plus◌, ◌⊔◌, ◌≼◌}
@@ -14,7 +14,7 @@ use Rattle.anchorage.specs.Lengths.{η1, η2, fbd, lb, twice_cd, cd, factor, α1
 use Rattle.anchorage.specs.Rules.{fcd, least_mandrel}
 use Rattle.anchorage.specs.Ranges.{Ranged}
 use Rattle.anchorage.proofs.Rising.{η1_pos, η2_pos, factor_mono}
-use Rattle.anchorage.proofs.Bounds.{round_most, round_most_15, α1_most, α4_most, α2_most, α3_most, α5_most, α6_most, α235_most, with-α6_most, lb_most, l0_most, lbd_most}
+use Rattle.anchorage.proofs.Bounds.{round_most_15, α6_most, α235_most, with-α6_most, lb_most, l0_most, lbd_most}
 
 pub lb_den : (b : Bar) → Ranged b → 0 < (η1 b).num * (η2 b).num * b.act * b.fctk
 lb_den b s = mul-pos (mul-pos (mul-pos (η1_pos b).num_pos (η2_pos b s).num_pos) (omega (arith, s.act_low))) (omega (arith, s.fctk_low))
@@ -116,18 +116,6 @@ unfolding Astmin
 
 -- how large the rounded numbers are
 module _ (c : Detail) (b : Bar) (s : Ranged b) where
-  pub α2_top : ths 1000000 (α2 c.shape b) ≤ 1000000
-  unfolding rounded
-  α2_top = omega (arith, (round_most (α2_most c b s)).cross)
-
-  pub α3_top : ths 1000000 (α3 c b) ≤ 1000000
-  unfolding rounded
-  α3_top = omega (arith, (round_most (α3_most c b s)).cross)
-
-  pub α5_top : ths 1000000 (α5 b) ≤ 1000000
-  unfolding rounded
-  α5_top = omega (arith, (round_most (α5_most c b s)).cross)
-
   pub α6_top : ths 1000000 (α6 b) ≤ 1500000
   unfolding rounded
   α6_top = omega (arith, (round_most_15 (α6_most c b s)).cross)
@@ -139,12 +127,6 @@ module _ (c : Detail) (b : Bar) (s : Ranged b) where
   pub α235_top : (α235 rounded c b).num ≤ 1000000
   unfolding rounded α235
   α235_top = omega (arith, (α235_most c b s).cross)
-
-  pub α1_top : (α1 c b).num ≤ 10
-  α1_top = omega (arith, (α1_most c b).cross)
-
-  pub α4_top : (α4 b).num ≤ 10
-  α4_top = omega (arith, (α4_most b).cross)
 
 -- the α235 of the three factors
 pub α235_tension : (c : Detail) (b : Bar) → c.tension ≡ true → max (ceiling (ths 1000000 (α2 c.shape b) * ths 1000000 (α3 c b) * ths 1000000 (α5 b)) 1000000000000) 700000 ≡ (α235 rounded c b).num
@@ -202,10 +184,6 @@ module _ (c : Detail) (b : Bar) (s : Ranged b) where
 
   pub lbd_top : ths 1 (lbd rounded c b) ≤ 14117
   lbd_top = le_trans (ths_mono 1 (lbd_most c b s)) (le_of_eq (ths_whole 14117))
-
-pub share_top : (t : Bool) → cond t 3 6 ≤ 6
-share_top true = lit≤ tt
-share_top false = lit≤ tt
 
 leb_scaled : (a b a' b' : ℕ) → a' ≡ 100 * a → b' ≡ 100 * b → leb a b ≡ leb a' b'
 leb_scaled a b a' b' h k = grind (arith, nat_tests)

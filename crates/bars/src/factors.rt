@@ -12,7 +12,8 @@ use measure::div_up;
 fn clamped(n: u64, d: u64) -> u64
     requires some { 0 < d }
     requires few { d ≤ 10 ^ 12 }
-    ensures { result ≡ ths 1000000 (factor (fraction n d)) }
+    ensures value { result ≡ ths 1000000 (factor (fraction n d)) }
+    ensures most { result ≤ 1000000 }
 {
     div_up(1_000_000 * d.saturating_sub(n), d).max(700_000)
 }
@@ -67,7 +68,8 @@ impl TestedBar {
 
     // α1, in tenths.
     pub(crate) fn alpha1(&self) -> u64
-        ensures { result ≡ (α1 self.now.detail self.now.bar).num }
+        ensures value { result ≡ (α1 self.now.detail self.now.bar).num }
+        ensures most { result ≤ 10 }
     {
         if self.detail.tension && self.is_far() {
             7
@@ -78,7 +80,8 @@ impl TestedBar {
 
     // α2, in millionths.
     fn alpha2(&self) -> u64
-        ensures { result ≡ ths 1000000 (α2 self.now.detail.shape self.now.bar) }
+        ensures value { result ≡ ths 1000000 (α2 self.now.detail.shape self.now.bar) }
+        ensures most { result ≤ 1000000 }
     {
         let dia = self.bar.dia;
         let covered = 15 * self.twice_cover();
@@ -91,7 +94,8 @@ impl TestedBar {
         requires few { least ≤ 900000 }
         requires some { 0 < parts }
         requires fine { parts ≤ 600000 }
-        ensures { result ≡ ths 1000000 (by_surplus self.now.bar (fraction (self.now.bar.area * least) (10 * parts))) }
+        ensures value { result ≡ ths 1000000 (by_surplus self.now.bar (fraction (self.now.bar.area * least) (10 * parts))) }
+        ensures most { result ≤ 1000000 }
     {
         let b = &self.bar;
         let beyond = (b.trans * parts).saturating_sub(least * b.area);
@@ -100,7 +104,8 @@ impl TestedBar {
 
     // α3, in millionths.
     fn alpha3(&self) -> u64
-        ensures { result ≡ ths 1000000 (α3 self.now.detail self.now.bar) }
+        ensures value { result ≡ ths 1000000 (α3 self.now.detail self.now.bar) }
+        ensures most { result ≤ 1000000 }
     {
         let b = &self.bar;
         if self.detail.lap {
@@ -114,7 +119,8 @@ impl TestedBar {
 
     // α4, in tenths.
     pub(crate) fn alpha4(&self) -> u64
-        ensures { result ≡ (α4 self.now.bar).num }
+        ensures value { result ≡ (α4 self.now.bar).num }
+        ensures most { result ≤ 10 }
     {
         if 10 * self.bar.weld <= 6 * self.bar.dia {
             10
@@ -125,14 +131,16 @@ impl TestedBar {
 
     // α5, in millionths.
     fn alpha5(&self) -> u64
-        ensures { result ≡ ths 1000000 (α5 self.now.bar) }
+        ensures value { result ≡ ths 1000000 (α5 self.now.bar) }
+        ensures most { result ≤ 1000000 }
     {
         clamped(4 * self.bar.press, 1000)
     }
 
     // α6, in millionths.
     pub(crate) fn alpha6(&self) -> u64
-        ensures { result ≡ ths 1000000 (α6 self.now.bar) }
+        ensures value { result ≡ ths 1000000 (α6 self.now.bar) }
+        ensures most { result ≤ 1500000 }
     {
         let share = self.bar.share;
         match share {
@@ -145,7 +153,8 @@ impl TestedBar {
 
     // α2·α3·α5, at least 0.7, in millionths; 1 in compression.
     pub(crate) fn alpha235(&self) -> u64
-        ensures { result ≡ (α235 rounded self.now.detail self.now.bar).num }
+        ensures value { result ≡ (α235 rounded self.now.detail self.now.bar).num }
+        ensures most { result ≤ 1000000 }
     {
         if self.detail.tension {
             let product = self.alpha2() * self.alpha3() * self.alpha5();

@@ -1,5 +1,5 @@
 // The length that an anchorage or a lap needs.
-ghost use Rattle.std.specs.Prelude.{◌≡◌, if◌then◌else◌};
+ghost use Rattle.std.specs.Prelude.{◌≡◌, ◌≤◌, if◌then◌else◌};
 ghost use Rattle.measure.specs.Rounding.{ths, rounded};
 ghost use Rattle.anchorage.specs.Lengths.{lb, lbd, l0, figure};
 
@@ -9,7 +9,8 @@ use measure::div_up;
 impl TestedBar {
     // The basic length, in hundredths of mm.
     fn basic_length(&self) -> u64
-        ensures { result ≡ ths 100 (lb self.now.bar) }
+        ensures value { result ≡ ths 100 (lb self.now.bar) }
+        ensures most { result ≤ 941100 }
     {
         let b = &self.bar;
         let pull = b.dia * b.stress * b.gc;
