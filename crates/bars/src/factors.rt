@@ -9,6 +9,7 @@ use anchorage::{Bond, Shape};
 use measure::div_up;
 
 // 1 − n/d, clamped to 0.7 .. 1 and rounded up to millionths.
+#[tactic(auto, using(anchorage::proofs::Computing::factor_code))]
 fn clamped(n: u64, d: u64) -> u64
     requires some { 0 < d }
     requires few { d ≤ 10 ^ 12 }
@@ -79,6 +80,7 @@ impl TestedBar {
     }
 
     // α2, in millionths.
+    #[tactic(auto, using(anchorage::proofs::Computing::cover_code))]
     fn alpha2(&self) -> u64
         ensures value { result ≡ ths 1000000 (α2 self.now.detail.shape self.now.bar) }
         ensures most { result ≤ 1000000 }
@@ -90,6 +92,7 @@ impl TestedBar {
     }
 
     // α3 where the least transverse steel is `least` of `parts` parts of the bar's area, in millionths.
+    #[tactic(auto, using(anchorage::proofs::Computing::surplus_code))]
     fn by_surplus(&self, least: u64, parts: u64) -> u64
         requires few { least ≤ 900000 }
         requires some { 0 < parts }
@@ -103,6 +106,7 @@ impl TestedBar {
     }
 
     // α3, in millionths.
+    #[tactic(auto, using(anchorage::proofs::Computing::lap_steel, anchorage::proofs::Computing::beam_steel, anchorage::proofs::Computing::slab_steel))]
     fn alpha3(&self) -> u64
         ensures value { result ≡ ths 1000000 (α3 self.now.detail self.now.bar) }
         ensures most { result ≤ 1000000 }
@@ -130,6 +134,7 @@ impl TestedBar {
     }
 
     // α5, in millionths.
+    #[tactic(auto, using(anchorage::proofs::Computing::pressure_code))]
     fn alpha5(&self) -> u64
         ensures value { result ≡ ths 1000000 (α5 self.now.bar) }
         ensures most { result ≤ 1000000 }
@@ -138,6 +143,7 @@ impl TestedBar {
     }
 
     // α6, in millionths.
+    #[tactic(auto, using(anchorage::proofs::Computing::share_low, anchorage::proofs::Computing::share_second, anchorage::proofs::Computing::share_third, anchorage::proofs::Computing::share_high, anchorage::proofs::Computing::share_top), unfolding(measure::specs::Rounding::ths, measure::specs::Rounding::ceiling))]
     pub(crate) fn alpha6(&self) -> u64
         ensures value { result ≡ ths 1000000 (α6 self.now.bar) }
         ensures most { result ≤ 1500000 }
@@ -152,6 +158,7 @@ impl TestedBar {
     }
 
     // α2·α3·α5, at least 0.7, in millionths; 1 in compression.
+    #[tactic(auto, using(anchorage::proofs::Computing::tension_code, anchorage::proofs::Computing::compression_code, anchorage::proofs::Computing::product_top))]
     pub(crate) fn alpha235(&self) -> u64
         ensures value { result ≡ (α235 rounded self.now.detail self.now.bar).num }
         ensures most { result ≤ 1000000 }

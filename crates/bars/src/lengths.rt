@@ -8,6 +8,7 @@ use measure::div_up;
 
 impl TestedBar {
     // The basic length, in hundredths of mm.
+    #[tactic(auto, using(anchorage::proofs::Computing::lb_code, anchorage::proofs::Computing::lb_top))]
     fn basic_length(&self) -> u64
         ensures value { result ≡ ths 100 (lb self.now.bar) }
         ensures most { result ≤ 941100 }
@@ -26,6 +27,7 @@ impl TestedBar {
     }
 
     // The length of an anchorage, in mm.
+    #[tactic(auto, using(anchorage::proofs::Computing::lbd_code))]
     fn anchorage_length(&self) -> u64
         ensures { result ≡ ths 1 (lbd rounded self.now.detail self.now.bar) }
     {
