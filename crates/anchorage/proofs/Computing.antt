@@ -175,9 +175,9 @@ lbd_code c b =
 
 -- what the program multiplies fits
 module _ (c : Detail) (b : Bar) (s : Ranged b) where
-  pub with-α6_top : ceiling ((α235 rounded c b).num * ths 1000000 (α6 b)) 1000000 ≤ 1500000
+  pub lap_product_top : ceiling ((α235 rounded c b).num * ths 1000000 (α6 b)) 1000000 ≤ 1500000
   unfolding rounded
-  with-α6_top = rw (with-α6_code c b) (omega (arith, (with-α6_most c b s).cross))
+  lap_product_top = rw (with-α6_code c b) (omega (arith, (with-α6_most c b s).cross))
 
   pub l0_top : ths 1 (l0 rounded c b) ≤ 14117
   l0_top = le_trans (ths_mono 1 (l0_most c b s)) (le_of_eq (ths_whole 14117))

@@ -40,6 +40,7 @@ impl TestedBar {
     }
 
     // The length of a lap, in mm.
+    #[tactic(auto, using(anchorage::proofs::Computing::lap_product_top, anchorage::proofs::Computing::l0_code))]
     fn lap_length(&self) -> u64
         ensures { result ≡ ths 1 (l0 rounded self.now.detail self.now.bar) }
     {
