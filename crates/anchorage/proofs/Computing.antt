@@ -1,5 +1,5 @@
 -- What a program computes on numerators over common denominators, by the formulas. Assumes nothing.
-use Rattle.std.proofs.Common.{◌≡◌, ℕ, ◌+◌, ◌-◌, ◌*◌, ◌<◌, ◌≤◌, max, Bool, true, false, cond, leb, sym, refl, ap, ◌∙◌, ap₂, le_trans, le_of_eq, mul-pos, one-mul, arith, lit<, lit≤}
+use Rattle.std.proofs.Common.{◌≡◌, ℕ, ◌+◌, ◌-◌, ◌*◌, ◌<◌, ◌≤◌, max, true, false, cond, leb, sym, refl, ap, ◌∙◌, ap₂, le_trans, le_of_eq, mul-pos, one-mul, arith, lit<}
 use native.Mathlib.Nat.{max_comm}
 use Rattle.std.proofs.lemmas.Bool.Decides.{nat_tests}
 use Rattle.measure.specs.Fractions.{Fraction, ◌over◌, whole, tenths, ◌·◌, ◌÷◌, ◌less◌, ◌plus◌, ◌⊔◌, ◌≼◌}
@@ -14,7 +14,7 @@ use Rattle.anchorage.specs.Lengths.{η1, η2, fbd, lb, twice_cd, cd, factor, α1
 use Rattle.anchorage.specs.Rules.{fcd, least_mandrel}
 use Rattle.anchorage.specs.Ranges.{Ranged}
 use Rattle.anchorage.proofs.Rising.{η1_pos, η2_pos, factor_mono}
-use Rattle.anchorage.proofs.Bounds.{round_most, round_most_15, α1_most, α4_most, α2_most, α3_most, α5_most, α6_most, α235_most, with-α6_most, lb_most, l0_most, lbd_most}
+use Rattle.anchorage.proofs.Bounds.{round_most_15, α6_most, α235_most, with-α6_most, lb_most, l0_most, lbd_most}
 
 pub lb_den : (b : Bar) → Ranged b → 0 < (η1 b).num * (η2 b).num * b.act * b.fctk
 lb_den b s = mul-pos (mul-pos (mul-pos (η1_pos b).num_pos (η2_pos b s).num_pos) (omega (arith, s.act_low))) (omega (arith, s.fctk_low))
@@ -47,9 +47,9 @@ pub factor_code : (n d : ℕ) → 0 < d → max (ceiling (1000000 * (d - n)) d) 
 unfolding factor
 factor_code n d p = max_comm _ 700000 ∙ sym (rw (ths-⊔ 1000000 (tenths 7) (whole 1 less n over d) (lit< tt) (less_den n d p), seven_ths, less_ths n d))
 
-pub α2_code : (s : Shape) (b : Bar) → Ranged b → ths 1000000 (factor ((15 * twice_cd s b - 30 * ample s * b.dia) over (200 * b.dia))) ≡ ths 1000000 (α2 s b)
+pub cover_code : (s : Shape) (b : Bar) → Ranged b → ths 1000000 (factor ((15 * twice_cd s b - 30 * ample s * b.dia) over (200 * b.dia))) ≡ ths 1000000 (α2 s b)
 unfolding α2 cd ◌·◌ ◌÷◌ ◌less◌
-α2_code s b h =
+cover_code s b h =
     let t = twice_cd s b in
     let k = ample s in
     let e : 15 * t - 30 * k * b.dia ≡ 15 * (t * 1 - k * b.dia * 2) = omega arith in
@@ -65,25 +65,25 @@ surplus_code b h least parts p =
     let e : b.trans * (10 * parts) - b.area * least * 10 ≡ 10 * n = omega arith in
     factor_same 1000000 _ _ (omega (arith, d)) (omega (arith, d)) (rw e (omega arith))
 
-pub α6_low : (b : Bar) → b.share ≤ 25 → α6 b ≡ whole 1
+pub share_low : (b : Bar) → b.share ≤ 25 → α6 b ≡ whole 1
 unfolding α6
-α6_low b h = grind (arith, nat_tests)
+share_low b h = grind (arith, nat_tests)
 
-pub α6_second : (b : Bar) → 25 < b.share → b.share ≤ 33 → α6 b ≡ (800 + 15 * (b.share - 25)) over 800
+pub share_second : (b : Bar) → 25 < b.share → b.share ≤ 33 → α6 b ≡ (800 + 15 * (b.share - 25)) over 800
 unfolding α6
-α6_second b h k = grind (arith, nat_tests)
+share_second b h k = grind (arith, nat_tests)
 
-pub α6_third : (b : Bar) → 33 < b.share → b.share ≤ 50 → α6 b ≡ (1955 + 25 * (b.share - 33)) over 1700
+pub share_third : (b : Bar) → 33 < b.share → b.share ≤ 50 → α6 b ≡ (1955 + 25 * (b.share - 33)) over 1700
 unfolding α6
-α6_third b h k = grind (arith, nat_tests)
+share_third b h k = grind (arith, nat_tests)
 
-pub α6_high : (b : Bar) → 50 < b.share → α6 b ≡ tenths 15
+pub share_high : (b : Bar) → 50 < b.share → α6 b ≡ tenths 15
 unfolding α6
-α6_high b h = grind (arith, nat_tests)
+share_high b h = grind (arith, nat_tests)
 
-pub α5_code : (b : Bar) → ths 1000000 (factor ((4 * b.press) over 1000)) ≡ ths 1000000 (α5 b)
+pub pressure_code : (b : Bar) → ths 1000000 (factor ((4 * b.press) over 1000)) ≡ ths 1000000 (α5 b)
 unfolding α5 ◌·◌
-α5_code b = refl
+pressure_code b = refl
 
 -- α3 by its three cases
 surplus_mono : (b : Bar) → Ranged b → {x y : Fraction} → x ≼ y → by_surplus b x ≼ by_surplus b y
@@ -100,56 +100,38 @@ lap_least : (b : Bar) → Ranged b → (0 < (As b · σ b · γs b ÷ fyk b).den
 unfolding ◌·◌ ◌÷◌
 lap_least b h = (omega (arith, h.fyk_low), omega arith)
 
-pub α3_lap : (c : Detail) (b : Bar) → Ranged b → c.lap ≡ true → ths 1000000 (by_surplus b ((b.area * (b.stress * b.gs)) over (10 * (1000 * b.fyk)))) ≡ ths 1000000 (α3 c b)
+pub lap_steel : (c : Detail) (b : Bar) → Ranged b → c.lap ≡ true → ths 1000000 (by_surplus b ((b.area * (b.stress * b.gs)) over (10 * (1000 * b.fyk)))) ≡ ths 1000000 (α3 c b)
 unfolding Astmin
-α3_lap c b h e =
+lap_steel c b h e =
     surplus_same b h _ (As b · σ b · γs b ÷ fyk b) (omega (arith, h.fyk_low)) (lap_least b h).0 (lap_least b h).1
     ∙ sym (ap (λ t. ths 1000000 (by_surplus b (cond t (As b · σ b · γs b ÷ fyk b) (cond c.beam (As b ÷ whole 4) (whole 0))))) e)
 
-pub α3_beam : (c : Detail) (b : Bar) → c.lap ≡ false → c.beam ≡ true → ths 1000000 (by_surplus b ((b.area * 1) over (10 * 4))) ≡ ths 1000000 (α3 c b)
+pub beam_steel : (c : Detail) (b : Bar) → c.lap ≡ false → c.beam ≡ true → ths 1000000 (by_surplus b ((b.area * 1) over (10 * 4))) ≡ ths 1000000 (α3 c b)
 unfolding Astmin ◌÷◌
-α3_beam c b e f = rw (e, f) refl
+beam_steel c b e f = rw (e, f) refl
 
-pub α3_slab : (c : Detail) (b : Bar) → Ranged b → c.lap ≡ false → c.beam ≡ false → ths 1000000 (by_surplus b ((b.area * 0) over (10 * 1))) ≡ ths 1000000 (α3 c b)
+pub slab_steel : (c : Detail) (b : Bar) → Ranged b → c.lap ≡ false → c.beam ≡ false → ths 1000000 (by_surplus b ((b.area * 0) over (10 * 1))) ≡ ths 1000000 (α3 c b)
 unfolding Astmin
-α3_slab c b h e f = surplus_same b h ((b.area * 0) over 10) (whole 0) (lit< tt) (lit< tt) (omega arith) ∙ rw (e, f) refl
+slab_steel c b h e f = surplus_same b h ((b.area * 0) over 10) (whole 0) (lit< tt) (lit< tt) (omega arith) ∙ rw (e, f) refl
 
 -- how large the rounded numbers are
 module _ (c : Detail) (b : Bar) (s : Ranged b) where
-  pub α2_top : ths 1000000 (α2 c.shape b) ≤ 1000000
+  pub share_top : ths 1000000 (α6 b) ≤ 1500000
   unfolding rounded
-  α2_top = omega (arith, (round_most (α2_most c b s)).cross)
-
-  pub α3_top : ths 1000000 (α3 c b) ≤ 1000000
-  unfolding rounded
-  α3_top = omega (arith, (round_most (α3_most c b s)).cross)
-
-  pub α5_top : ths 1000000 (α5 b) ≤ 1000000
-  unfolding rounded
-  α5_top = omega (arith, (round_most (α5_most c b s)).cross)
-
-  pub α6_top : ths 1000000 (α6 b) ≤ 1500000
-  unfolding rounded
-  α6_top = omega (arith, (round_most_15 (α6_most c b s)).cross)
+  share_top = omega (arith, (round_most_15 (α6_most c b s)).cross)
 
   pub lb_top : ths 100 (lb b) ≤ 941100
   unfolding rounded
   lb_top = omega (arith, (lb_most c b s).cross)
 
-  pub α235_top : (α235 rounded c b).num ≤ 1000000
+  pub product_top : (α235 rounded c b).num ≤ 1000000
   unfolding rounded α235
-  α235_top = omega (arith, (α235_most c b s).cross)
-
-  pub α1_top : (α1 c b).num ≤ 10
-  α1_top = omega (arith, (α1_most c b).cross)
-
-  pub α4_top : (α4 b).num ≤ 10
-  α4_top = omega (arith, (α4_most b).cross)
+  product_top = omega (arith, (α235_most c b s).cross)
 
 -- the α235 of the three factors
-pub α235_tension : (c : Detail) (b : Bar) → c.tension ≡ true → max (ceiling (ths 1000000 (α2 c.shape b) * ths 1000000 (α3 c b) * ths 1000000 (α5 b)) 1000000000000) 700000 ≡ (α235 rounded c b).num
+pub tension_code : (c : Detail) (b : Bar) → c.tension ≡ true → max (ceiling (ths 1000000 (α2 c.shape b) * ths 1000000 (α3 c b) * ths 1000000 (α5 b)) 1000000000000) 700000 ≡ (α235 rounded c b).num
 unfolding α235 rounded ◌·◌
-α235_tension c b e =
+tension_code c b e =
     let A = ths 1000000 (α2 c.shape b) in
     let B = ths 1000000 (α3 c b) in
     let C = ths 1000000 (α5 b) in
@@ -158,9 +140,9 @@ unfolding α235 rounded ◌·◌
     max_comm _ 700000
     ∙ sym (ap (λ t. ths 1000000 (cond t (tenths 7 ⊔ x) (whole 1))) e ∙ ths-⊔ 1000000 (tenths 7) x (lit< tt) (lit< tt) ∙ ap₂ max seven_ths (ths_over 1000000 (A * B * C) 1000000000000000000 ∙ t))
 
-pub α235_compression : (c : Detail) (b : Bar) → c.tension ≡ false → 1000000 ≡ (α235 rounded c b).num
+pub compression_code : (c : Detail) (b : Bar) → c.tension ≡ false → 1000000 ≡ (α235 rounded c b).num
 unfolding α235 rounded ths ceiling
-α235_compression c b e = sym (ap (λ t. ths 1000000 (cond t (tenths 7 ⊔ rounded millionths (α2 c.shape b) · rounded millionths (α3 c b) · rounded millionths (α5 b)) (whole 1))) e)
+compression_code c b e = sym (ap (λ t. ths 1000000 (cond t (tenths 7 ⊔ rounded millionths (α2 c.shape b) · rounded millionths (α3 c b) · rounded millionths (α5 b)) (whole 1))) e)
 
 -- that α235 times α6
 with-α6_code : (c : Detail) (b : Bar) → ceiling ((α235 rounded c b).num * ths 1000000 (α6 b)) 1000000 ≡ ths 1000000 (α235 rounded c b · rounded millionths (α6 b))
@@ -193,19 +175,15 @@ lbd_code c b =
 
 -- what the program multiplies fits
 module _ (c : Detail) (b : Bar) (s : Ranged b) where
-  pub with-α6_top : ceiling ((α235 rounded c b).num * ths 1000000 (α6 b)) 1000000 ≤ 1500000
+  pub lap_product_top : ceiling ((α235 rounded c b).num * ths 1000000 (α6 b)) 1000000 ≤ 1500000
   unfolding rounded
-  with-α6_top = rw (with-α6_code c b) (omega (arith, (with-α6_most c b s).cross))
+  lap_product_top = rw (with-α6_code c b) (omega (arith, (with-α6_most c b s).cross))
 
   pub l0_top : ths 1 (l0 rounded c b) ≤ 14117
   l0_top = le_trans (ths_mono 1 (l0_most c b s)) (le_of_eq (ths_whole 14117))
 
   pub lbd_top : ths 1 (lbd rounded c b) ≤ 14117
   lbd_top = le_trans (ths_mono 1 (lbd_most c b s)) (le_of_eq (ths_whole 14117))
-
-pub share_top : (t : Bool) → cond t 3 6 ≤ 6
-share_top true = lit≤ tt
-share_top false = lit≤ tt
 
 leb_scaled : (a b a' b' : ℕ) → a' ≡ 100 * a → b' ≡ 100 * b → leb a b ≡ leb a' b'
 leb_scaled a b a' b' h k = grind (arith, nat_tests)

@@ -32,6 +32,7 @@ impl<A: Annex> Book for BarBook<A> {
         RULES
     }
 
+    #[tactic(auto, using(book::proofs::Testing::test_says))]
     fn test(&self, situation: Situation, line: &BarLine) -> Result<(), LineFault>
         ensures value { result ≡ test_of (A.Annex.means self.now.annex) situation line.now }
         ensures says { TestSays (in_range line.now) (agrees line.now) (borne (A.Annex.means self.now.annex) situation line.now) result }
@@ -39,6 +40,7 @@ impl<A: Annex> Book for BarBook<A> {
         self.test_line(situation, line)
     }
 
+    #[tactic(auto, using(crate::proofs::Answering::meets_none))]
     fn meets(&self, situation: Situation, rule: u8, line: &BarLine) -> bool {
         let Some(bar) = self.tested_bar(situation, line) else {
             return true;
@@ -47,6 +49,7 @@ impl<A: Annex> Book for BarBook<A> {
         rule == 0 || met.get(usize::from(rule) - 1).copied().unwrap_or(true)
     }
 
+    #[tactic(auto, using(crate::proofs::Answering::figure_answer))]
     fn figure(&self, situation: Situation, line: &BarLine) -> u32 {
         let Some(bar) = self.tested_bar(situation, line) else {
             return 0;

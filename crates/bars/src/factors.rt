@@ -9,10 +9,12 @@ use anchorage::{Bond, Shape};
 use measure::div_up;
 
 // 1 − n/d, clamped to 0.7 .. 1 and rounded up to millionths.
+#[tactic(auto, using(anchorage::proofs::Computing::factor_code))]
 fn clamped(n: u64, d: u64) -> u64
     requires some { 0 < d }
     requires few { d ≤ 10 ^ 12 }
-    ensures { result ≡ ths 1000000 (factor (fraction n d)) }
+    ensures value { result ≡ ths 1000000 (factor (fraction n d)) }
+    ensures most { result ≤ 1000000 }
 {
     div_up(1_000_000 * d.saturating_sub(n), d).max(700_000)
 }
@@ -67,7 +69,8 @@ impl TestedBar {
 
     // α1, in tenths.
     pub(crate) fn alpha1(&self) -> u64
-        ensures { result ≡ (α1 self.now.detail self.now.bar).num }
+        ensures value { result ≡ (α1 self.now.detail self.now.bar).num }
+        ensures most { result ≤ 10 }
     {
         if self.detail.tension && self.is_far() {
             7
@@ -77,8 +80,10 @@ impl TestedBar {
     }
 
     // α2, in millionths.
+    #[tactic(auto, using(anchorage::proofs::Computing::cover_code))]
     fn alpha2(&self) -> u64
-        ensures { result ≡ ths 1000000 (α2 self.now.detail.shape self.now.bar) }
+        ensures value { result ≡ ths 1000000 (α2 self.now.detail.shape self.now.bar) }
+        ensures most { result ≤ 1000000 }
     {
         let dia = self.bar.dia;
         let covered = 15 * self.twice_cover();
@@ -87,11 +92,13 @@ impl TestedBar {
     }
 
     // α3 where the least transverse steel is `least` of `parts` parts of the bar's area, in millionths.
+    #[tactic(auto, using(anchorage::proofs::Computing::surplus_code))]
     fn by_surplus(&self, least: u64, parts: u64) -> u64
         requires few { least ≤ 900000 }
         requires some { 0 < parts }
         requires fine { parts ≤ 600000 }
-        ensures { result ≡ ths 1000000 (by_surplus self.now.bar (fraction (self.now.bar.area * least) (10 * parts))) }
+        ensures value { result ≡ ths 1000000 (by_surplus self.now.bar (fraction (self.now.bar.area * least) (10 * parts))) }
+        ensures most { result ≤ 1000000 }
     {
         let b = &self.bar;
         let beyond = (b.trans * parts).saturating_sub(least * b.area);
@@ -99,8 +106,10 @@ impl TestedBar {
     }
 
     // α3, in millionths.
+    #[tactic(auto, using(anchorage::proofs::Computing::lap_steel, anchorage::proofs::Computing::beam_steel, anchorage::proofs::Computing::slab_steel))]
     fn alpha3(&self) -> u64
-        ensures { result ≡ ths 1000000 (α3 self.now.detail self.now.bar) }
+        ensures value { result ≡ ths 1000000 (α3 self.now.detail self.now.bar) }
+        ensures most { result ≤ 1000000 }
     {
         let b = &self.bar;
         if self.detail.lap {
@@ -114,7 +123,8 @@ impl TestedBar {
 
     // α4, in tenths.
     pub(crate) fn alpha4(&self) -> u64
-        ensures { result ≡ (α4 self.now.bar).num }
+        ensures value { result ≡ (α4 self.now.bar).num }
+        ensures most { result ≤ 10 }
     {
         if 10 * self.bar.weld <= 6 * self.bar.dia {
             10
@@ -124,15 +134,19 @@ impl TestedBar {
     }
 
     // α5, in millionths.
+    #[tactic(auto, using(anchorage::proofs::Computing::pressure_code))]
     fn alpha5(&self) -> u64
-        ensures { result ≡ ths 1000000 (α5 self.now.bar) }
+        ensures value { result ≡ ths 1000000 (α5 self.now.bar) }
+        ensures most { result ≤ 1000000 }
     {
         clamped(4 * self.bar.press, 1000)
     }
 
     // α6, in millionths.
+    #[tactic(auto, using(anchorage::proofs::Computing::share_low, anchorage::proofs::Computing::share_second, anchorage::proofs::Computing::share_third, anchorage::proofs::Computing::share_high, anchorage::proofs::Computing::share_top), unfolding(measure::specs::Rounding::ths, measure::specs::Rounding::ceiling))]
     pub(crate) fn alpha6(&self) -> u64
-        ensures { result ≡ ths 1000000 (α6 self.now.bar) }
+        ensures value { result ≡ ths 1000000 (α6 self.now.bar) }
+        ensures most { result ≤ 1500000 }
     {
         let share = self.bar.share;
         match share {
@@ -144,8 +158,10 @@ impl TestedBar {
     }
 
     // α2·α3·α5, at least 0.7, in millionths; 1 in compression.
+    #[tactic(auto, using(anchorage::proofs::Computing::tension_code, anchorage::proofs::Computing::compression_code, anchorage::proofs::Computing::product_top))]
     pub(crate) fn alpha235(&self) -> u64
-        ensures { result ≡ (α235 rounded self.now.detail self.now.bar).num }
+        ensures value { result ≡ (α235 rounded self.now.detail self.now.bar).num }
+        ensures most { result ≤ 1000000 }
     {
         if self.detail.tension {
             let product = self.alpha2() * self.alpha3() * self.alpha5();

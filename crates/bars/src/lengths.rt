@@ -1,5 +1,5 @@
 // The length that an anchorage or a lap needs.
-ghost use Rattle.std.specs.Prelude.{◌≡◌, if◌then◌else◌};
+ghost use Rattle.std.specs.Prelude.{◌≡◌, ◌≤◌, if◌then◌else◌};
 ghost use Rattle.measure.specs.Rounding.{ths, rounded};
 ghost use Rattle.anchorage.specs.Lengths.{lb, lbd, l0, figure};
 
@@ -8,8 +8,10 @@ use measure::div_up;
 
 impl TestedBar {
     // The basic length, in hundredths of mm.
+    #[tactic(auto, using(anchorage::proofs::Computing::lb_code, anchorage::proofs::Computing::lb_top))]
     fn basic_length(&self) -> u64
-        ensures { result ≡ ths 100 (lb self.now.bar) }
+        ensures value { result ≡ ths 100 (lb self.now.bar) }
+        ensures most { result ≤ 941100 }
     {
         let b = &self.bar;
         let pull = b.dia * b.stress * b.gc;
@@ -25,6 +27,7 @@ impl TestedBar {
     }
 
     // The length of an anchorage, in mm.
+    #[tactic(auto, using(anchorage::proofs::Computing::lbd_code))]
     fn anchorage_length(&self) -> u64
         ensures { result ≡ ths 1 (lbd rounded self.now.detail self.now.bar) }
     {
@@ -37,6 +40,7 @@ impl TestedBar {
     }
 
     // The length of a lap, in mm.
+    #[tactic(auto, using(anchorage::proofs::Computing::lap_product_top, anchorage::proofs::Computing::l0_code))]
     fn lap_length(&self) -> u64
         ensures { result ≡ ths 1 (l0 rounded self.now.detail self.now.bar) }
     {

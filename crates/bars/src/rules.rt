@@ -23,6 +23,7 @@ impl TestedBar {
     }
 
     // The mandrel is wide enough for the concrete.
+    #[tactic(auto, using(anchorage::proofs::Computing::mandrel_code), unfolding(anchorage::specs::Rules::rule3))]
     fn mandrel_suits_concrete(&self) -> bool
         ensures { result ≡ rule3 self.now.detail self.now.bar }
     {

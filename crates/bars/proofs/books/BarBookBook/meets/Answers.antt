@@ -1,16 +1,7 @@
-use Rattle.std.proofs.Common.{◌≡◌, ◌-◌, true, get_or, sym, refl, ap, subst, ◌∙◌, le_refl, arith}
-use Rattle.std.specs.Prelude.{unwrap_or, nat_eq}
-use Rattle.book.specs.Meaning.{meets_of}
-use Rattle.bars.specs.Meaning.{bar_meaning}
-use Rattle.bars.proofs.Answering.{meets_answer, meets_none}
+use Rattle.std.proofs.Common.{◌-◌, true, get_or, ap, ◌∙◌, le_refl, arith}
+use Rattle.std.specs.Prelude.{unwrap_or}
+use Rattle.bars.proofs.Answering.{meets_answer}
 use Rattle.bars.proofs.books.BarBookBook.meets.Goals as goal
-
-pub returns-then-rule-eq0 : goal.returns-then-rule-eq0
-returns-then-rule-eq0 g c =
-    let n = g.A.Annex.means c.args.self.now.annex in
-    let s = c.args.situation in
-    let l = c.args.line.now in
-    subst (λ r. nat_eq r 0 ≡ meets_of (bar_meaning n) s r l) (sym c.if-rule-eq0.true) (meets_none n s l 0 refl)
 
 pub returns-else-rule-eq0 : goal.returns-else-rule-eq0
 returns-else-rule-eq0 g c =

@@ -1,7 +1,4 @@
-use Rattle.std.proofs.Common.{◌+◌, ◌*◌, ◌≤◌, ◌||◌, ap, ◌∙◌, le_refl, mul-le-mul, arith}
-use Rattle.measure.specs.Rounding.{reaches}
-use Rattle.anchorage.specs.Rules.{rule3, least_mandrel}
-use Rattle.anchorage.proofs.Computing.{mandrel_code}
+use Rattle.std.proofs.Common.{◌+◌, ◌*◌, ◌≤◌, le_refl, mul-le-mul, arith}
 use Rattle.bars.proofs.tested.TestedBar.mandrel_suits_concrete.Goals as goal
 
 pub overflow_mul-force-4 : goal.overflow_mul-force-4
@@ -20,15 +17,3 @@ pub overflow_mul-result : goal.overflow_mul-result
 overflow_mul-result c =
     let s = c.args.self.now.ranged in
     record { fits = omega (arith, mul-le-mul s.mandrel_high (mul-le-mul (mul-le-mul (mul-le-mul (mul-le-mul s.acc_high s.fck_high) (le_refl 200)) s.dia_high) s.pitch_high)) }
-
-pub returns-then-is_straight : goal.returns-then-is_straight
-unfolding rule3
-returns-then-is_straight c =
-    let b = c.args.self.now.bar in
-    c.if-is_straight.true ∙ ap (λ t. t || reaches b.mandrel (least_mandrel b)) c.if-is_straight.ensures
-
-pub returns-else-is_straight : goal.returns-else-is_straight
-unfolding rule3
-returns-else-is_straight c =
-    let b = c.args.self.now.bar in
-    mandrel_code b ∙ ap (λ t. t || reaches b.mandrel (least_mandrel b)) c.if-is_straight.ensures

@@ -1,8 +1,0 @@
-use Rattle.std.proofs.Common.{◌∙◌}
-use Rattle.anchorage.proofs.Computing.{α2_code}
-use Rattle.bars.proofs.tested.TestedBar.alpha2.Goals as goal
-
-pub returns : goal.returns
-returns c =
-    rw (c.saturating_sub.ensures, c.twice_cover-covered.ensures, c.ample_cover.ensures) at c.clamped.ensures
-    ∙ α2_code c.args.self.now.detail.shape c.args.self.now.bar c.args.self.now.ranged
