@@ -1,5 +1,5 @@
 // The factors on an anchorage or lap length, as numerators over a fixed denominator.
-ghost use Rattle.std.specs.Prelude.{◌≡◌, ◌*◌, ◌^◌, ◌<◌, ◌≤◌};
+ghost use Rattle.std.specs.Prelude.{◌≡◌, ◌-◌, ◌*◌, ◌^◌, ◌<◌, ◌≤◌};
 ghost use Rattle.measure.specs.Fractions.{◌over◌ as fraction};
 ghost use Rattle.measure.specs.Rounding.{ths, rounded};
 ghost use Rattle.anchorage.specs.Lengths.{η1, η2, twice_cd, factor, far, α1, ample, α2, by_surplus, α3, α4, α5, α6, α235};
@@ -17,6 +17,16 @@ fn clamped(n: u64, d: u64) -> u64
     ensures most { result ≤ 1000000 }
 {
     div_up(1_000_000 * d.saturating_sub(n), d).max(700_000)
+}
+
+// What a has beyond b: their signed difference, clamped at 0.
+fn surplus(a: u64, b: u64) -> u64
+    requires left { a ≤ 10 ^ 13 }
+    requires right { b ≤ 10 ^ 13 }
+    ensures { result ≡ a - b }
+{
+    let signed = a as i64 - b as i64;
+    if signed < 0 { 0 } else { signed as u64 }
 }
 
 // The cover, in diameters, above which α2 falls.
@@ -101,7 +111,7 @@ impl TestedBar {
         ensures most { result ≤ 1000000 }
     {
         let b = &self.bar;
-        let beyond = (b.trans * parts).saturating_sub(least * b.area);
+        let beyond = surplus(b.trans * parts, least * b.area);
         clamped(b.eff * beyond, 100 * b.area * parts)
     }
 
