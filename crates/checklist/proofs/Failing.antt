@@ -32,6 +32,14 @@ none_decides test i n = go (first_failed test i n) (first_law test i n)
     go None all = (λ _. all, λ _. refl)
     go (Some f) first = (λ e. absurd (both_ways false refl e), λ all. absurd (both_ways (test (f - 1)) first.fails (all (f - 1) (omega (arith, first.from)) (omega (arith, first.from, first.upto)))))
 
+-- tests that agree on these places fail first at the same
+pub same_first : (test other : ℕ → Bool) (i n : ℕ) → ((k : ℕ) → i ≤ k → k < i + n → test k ≡ other k) → first_failed test i n ≡ first_failed other i n
+same_first test other i zero h = refl
+same_first test other i (suc n) h =
+    let rest = same_first test other (i + 1) n (λ k a b. h k (omega arith) (omega arith)) in
+    let here = h i (omega arith) (omega arith) in
+    λ j. cond (here j) (rest j) (Some (i + 1))
+
 -- what passes before a failure tells it
 pub told_first : (test : ℕ → Bool) (i n f : ℕ) → FailsFirst test i n f → first_failed test i n ≡ Some f
 told_first test i n f first = go (first_failed test i n) (first_law test i n)

@@ -1,18 +1,20 @@
 -- What an annex accepts. Assumes nothing.
-use Rattle.std.proofs.Common.{◌≡◌, ℕ, ◌+◌, ◌-◌, ◌<◌, ◌≤◌, Bool, true, false, not, ◌⊎◌, ⊎_elim, List, length, get_or, drop, min, is_some, Some, None, Ok, Option, MatchOption, sym, refl, ap, ◌∙◌, subst, arith, MatchResult}
+use Rattle.std.proofs.Common.{◌≡◌, ℕ, ◌+◌, ◌-◌, ◌<◌, ◌≤◌, Bool, true, false, not, ◌⊎◌, ⊎_elim, List, length, get_or, drop, min, is_some, Some, None, Ok, Option, MatchOption, sym, refl, ap, ◌∙◌, subst, arith, MatchResult, [], ◌∷◌}
 use Rattle.std.specs.List.{AllWithin, HoldsAt, zip}
 use Rattle.std.specs.Option.{option_map}
-use Rattle.std.proofs.lemmas.List.{get_or-drop, length-drop}
+use Rattle.std.proofs.lemmas.List.{get_or-drop, get_or-map, length-drop}
 use Rattle.std.proofs.lemmas.Slice.Zip.{length-zip, get_or-zip}
 use Rattle.std.proofs.lemmas.List.FromFn.{fill_by_all}
 use Rattle.std.proofs.lemmas.Bool.{and_parts, and_from, and_left, and_right, le-leb, lt-leb, eq-eqb, both_ways, cases_order}
 use Rattle.refusal.specs.declared.Refusal.TheVariants.{AnnexRange, Falling}
 use Rattle.annex.specs.declared.numbers.Numbers.{Numbers}
-use Rattle.annex.specs.Numbers.{ranges, fields_of, numbers_of}
-use Rattle.checklist.specs.Firsts.{Passes, FailsFirst, first_failed}
+use Rattle.annex.specs.Numbers.{annex_names, ranges, fields_of, numbers_of}
+use Rattle.checklist.specs.Firsts.{Passes, FailsFirst, first_failed, test_at}
+use Rattle.fields.specs.Fields.{Field, field, between, admits, admitted}
+use Rattle.fields.proofs.Admitting.{admitted_at, length-admitted}
 use Rattle.annex.specs.Laws.{Ranged, Rising, in_range, no_fall, first_out, first_fall, is_ranged, is_rising}
-use Rattle.national.specs.Acceptance.{refused_at, accepted_of, AcceptedLaw}
-use Rattle.checklist.proofs.Failing.{first_law}
+use Rattle.national.specs.Acceptance.{annex_fields, refused_at, accepted_of, AcceptedLaw}
+use Rattle.checklist.proofs.Failing.{first_law, same_first}
 use Rattle.annex.specs.Keeping.{ranged_decides, rising_decides}
 
 -- 21 numbers are those that their fields list
@@ -38,29 +40,22 @@ module _ {A : Type 0} (test : ℕ → Bool) (i : ℕ) (all : List A) (d : A) (Ye
           (⊎_elim (λ l. absurd (both_ways (test (f - 1)) o.fails (passed (f - 1) p (omega (arith, o.from)) l (omega (arith, h.0)) h.2))) (λ g. absurd (both_ways (test (i + p)) (fails p h.0 (h.1 d)) (o.before (i + p) (omega arith) g))))
           (cases_order (f - 1) (i + p))
 
--- a number in its range, or out of it
-abbrev pub In : (ℕ × ℕ) × ℕ → Type 0
-In p = (p.0.0 ≤ p.1) × (p.1 ≤ p.0.1)
+abbrev none : List ℕ × (ℕ × ℕ)
+none = ([], (0, 0))
 
-abbrev pub Out : (ℕ × ℕ) × ℕ → Type 0
-Out p = (p.1 < p.0.0) ⊎ (p.0.1 < p.1)
+abbrev made : List ℕ × (ℕ × ℕ) → Field
+made p = field p.0 (between p.1.0 p.1.1)
 
--- a search for the first number out of its range
-pub out_found : (ns : List ℕ) → length ns ≡ 21 → (r : Option ℕ) → MatchOption r (AllWithin In (zip ranges ns) 0 (length (zip ranges ns))) (λ p. (p < length (zip ranges ns)) × HoldsAt Out (zip ranges ns) p × AllWithin In (zip ranges ns) 0 p) → option_map (λ p. 0 + p + 1) r ≡ first_out ns
+-- of 21 numbers the first that its field does not admit
+pub out_found : (ns : List ℕ) → length ns ≡ 21 → first_failed (test_at (admitted annex_fields ns)) 0 (length (admitted annex_fields ns)) ≡ first_out ns
 unfolding first_out
-out_found ns full r h = number_of_first (in_range ns) 0 (zip ranges ns) ((0, 0), 0) Out In fails passes r h ∙ ap (first_failed (in_range ns) 0) long
+out_found ns full = ap (first_failed (test_at (admitted annex_fields ns)) 0) (length-admitted annex_fields ns (sym full)) ∙ same_first (test_at (admitted annex_fields ns)) (in_range ns) 0 21 same
   where
-    long : length (zip ranges ns) ≡ 21
-    long = length-zip ranges ns ∙ ap (min 21) full
-
-    at : (k : ℕ) → k < length (zip ranges ns) → get_or (zip ranges ns) k ((0, 0), 0) ≡ (get_or ranges (0 + k) (0, 0), get_or ns (0 + k) 0)
-    at k lt = let e : 0 + k ≡ k = omega arith in get_or-zip ranges ns k ((0, 0), 0) (omega (arith, long)) (omega (arith, long, full)) ∙ (λ i. (get_or ranges (sym e i) (0, 0), get_or ns (sym e i) 0))
-
-    fails : (k : ℕ) → k < length (zip ranges ns) → Out (get_or (zip ranges ns) k ((0, 0), 0)) → in_range ns (0 + k) ≡ false
-    fails k lt out = ⊎_elim (λ low. and_left _ _ (lt-leb _ _ low)) (λ high. and_right _ _ (lt-leb _ _ high)) (subst Out (at k lt) out)
-
-    passes : (k : ℕ) → k < length (zip ranges ns) → In (get_or (zip ranges ns) k ((0, 0), 0)) → in_range ns (0 + k) ≡ true
-    passes k lt within = let w = subst In (at k lt) within in and_from _ _ (le-leb _ _ w.0) (le-leb _ _ w.1)
+    same : (k : ℕ) → 0 ≤ k → k < 0 + 21 → test_at (admitted annex_fields ns) k ≡ in_range ns k
+    same k _ h =
+        let pairs = zip annex_names ranges in
+        let at : get_or annex_fields k (made none) ≡ made (get_or annex_names k [], get_or ranges k (0, 0)) = get_or-map made pairs k none (made none) (omega (arith, h)) ∙ ap made (get_or-zip annex_names ranges k none (omega (arith, h)) (omega (arith, h))) in
+        admitted_at annex_fields ns k (made none) (omega (arith, h)) (omega (arith, h, full)) ∙ ap (λ f. admits f.values (get_or ns k 0)) at
 
 -- a multiple that is smaller than the one before it, or is not
 abbrev pub Falls : ℕ × ℕ → Type 0

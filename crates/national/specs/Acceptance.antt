@@ -1,10 +1,16 @@
 -- Which numbers an annex accepts, and why it refuses others. Assumes nothing.
-use Rattle.std.specs.Prelude.{◌≡◌, ℕ, List, Some, None, Ok, Err, Option, Result, MatchResult}
+use Rattle.std.specs.Prelude.{◌≡◌, ℕ, List, map, Some, None, Ok, Err, Option, Result, MatchResult}
 use Rattle.refusal.specs.declared.Refusal.{Refusal}
 use Rattle.refusal.specs.declared.Refusal.TheVariants.{AnnexRange, Falling}
 use Rattle.annex.specs.declared.numbers.Numbers.{Numbers}
-use Rattle.annex.specs.Numbers.{numbers_of}
+use Rattle.std.specs.List.{zip}
+use Rattle.fields.specs.Fields.{Field, field, between}
+use Rattle.annex.specs.Numbers.{annex_names, ranges, numbers_of}
 use Rattle.annex.specs.Laws.{Ranged, Rising, first_out, first_fall}
+
+-- the fields of an annex text: each name beside its range
+abbrev pub annex_fields : List Field
+annex_fields = map (λ p. field p.0 (between p.1.0 p.1.1)) (zip annex_names ranges)
 
 -- the refusal at a field, if there is one, before what follows
 abbrev pub refused_at : {X : Type 0} → (ℕ → Refusal) → Option ℕ → Result X Refusal → Result X Refusal

@@ -4,34 +4,10 @@ ghost use Rattle.annex.specs.Numbers.{numbers_of};
 ghost use Rattle.annex.specs.Laws.{first_out, first_fall};
 ghost use Rattle.national.specs.Acceptance.{accepted_of};
 
-use crate::names::FIELDS;
+use crate::names::{AnnexFields, FIELDS};
 use annex::Numbers;
+use reader::Named;
 use refusal::Refusal;
-
-// By field the least and the greatest number.
-const RANGES: [(u32, u32); FIELDS] = [
-    (100, 200),
-    (100, 200),
-    (100, 150),
-    (100, 150),
-    (80, 100),
-    (80, 100),
-    (10, 30),
-    (0, 20),
-    (2, 8),
-    (50, 100),
-    (1, 20),
-    (1, 20),
-    (1, 20),
-    (1, 20),
-    (1, 20),
-    (1, 20),
-    (1, 20),
-    (1, 20),
-    (1, 20),
-    (1, 20),
-    (1, 20),
-];
 
 // The place of the first multiple.
 const FIRST_MULTIPLE: usize = 10;
@@ -56,11 +32,7 @@ pub(crate) fn accepted(fields: &[u32; FIELDS]) -> Result<Numbers, Refusal>
 fn first_out(fields: &[u32; FIELDS]) -> Option<u32>
     ensures { result ≡ first_out fields.now }
 {
-    let place = RANGES
-        .iter()
-        .zip(fields)
-        .position(|((low, high), n)| !(*low..=*high).contains(n))?;
-    Some(place as u32 + 1)
+    fields::first_out(AnnexFields.fields(), fields).map(|field| field as u32)
 }
 
 // The first field with a multiple smaller than the one before it, from 1.

@@ -1,16 +1,103 @@
 // The names of an annex's numbers.
-ghost use Rattle.std.specs.Prelude.{◌≡◌, map, refl};
+ghost use Rattle.std.specs.Prelude.{◌≡◌, refl};
+ghost use Rattle.fields.specs.Fields.{names_of};
+ghost use Rattle.fields.specs.Tables.{fields_of};
 ghost use Rattle.annex.specs.Numbers.{annex_names};
+ghost use Rattle.national.specs.Acceptance.{annex_fields};
 ghost use Rattle.reader.proofs.Naming.{well_named};
 
+use fields::{Field, Values};
 use reader::Named;
 
 // How many numbers an annex has.
 pub(crate) const FIELDS: usize = 21;
 
-const NAMES: [&[u8]; FIELDS] = [
-    b"gc1", b"gc2", b"gs1", b"gs2", b"act", b"acc", b"k1", b"k2", b"km", b"ks", b"m6", b"m8",
-    b"m10", b"m12", b"m14", b"m16", b"m20", b"m25", b"m28", b"m32", b"m40",
+// By field its name, and the least and the greatest number.
+const ANNEX_FIELDS: &[Field] = &[
+    Field {
+        name: b"gc1",
+        values: Values::Between(100, 200),
+    },
+    Field {
+        name: b"gc2",
+        values: Values::Between(100, 200),
+    },
+    Field {
+        name: b"gs1",
+        values: Values::Between(100, 150),
+    },
+    Field {
+        name: b"gs2",
+        values: Values::Between(100, 150),
+    },
+    Field {
+        name: b"act",
+        values: Values::Between(80, 100),
+    },
+    Field {
+        name: b"acc",
+        values: Values::Between(80, 100),
+    },
+    Field {
+        name: b"k1",
+        values: Values::Between(10, 30),
+    },
+    Field {
+        name: b"k2",
+        values: Values::Between(0, 20),
+    },
+    Field {
+        name: b"km",
+        values: Values::Between(2, 8),
+    },
+    Field {
+        name: b"ks",
+        values: Values::Between(50, 100),
+    },
+    Field {
+        name: b"m6",
+        values: Values::Between(1, 20),
+    },
+    Field {
+        name: b"m8",
+        values: Values::Between(1, 20),
+    },
+    Field {
+        name: b"m10",
+        values: Values::Between(1, 20),
+    },
+    Field {
+        name: b"m12",
+        values: Values::Between(1, 20),
+    },
+    Field {
+        name: b"m14",
+        values: Values::Between(1, 20),
+    },
+    Field {
+        name: b"m16",
+        values: Values::Between(1, 20),
+    },
+    Field {
+        name: b"m20",
+        values: Values::Between(1, 20),
+    },
+    Field {
+        name: b"m25",
+        values: Values::Between(1, 20),
+    },
+    Field {
+        name: b"m28",
+        values: Values::Between(1, 20),
+    },
+    Field {
+        name: b"m32",
+        values: Values::Between(1, 20),
+    },
+    Field {
+        name: b"m40",
+        values: Values::Between(1, 20),
+    },
 ];
 
 // The fields of every annex text.
@@ -24,9 +111,10 @@ impl Named<FIELDS> for AnnexFields {
 
     ghost named = { λ _. well_named annex_names refl };
 
-    fn names(&self) -> &'static [&'static [u8]]
-        ensures { map (λ name. name.now) result.now ≡ annex_names }
+    fn fields(&self) -> &'static [Field]
+        ensures names { names_of (fields_of result.now) ≡ annex_names }
+        ensures fields { fields_of result.now ≡ annex_fields }
     {
-        &NAMES
+        ANNEX_FIELDS
     }
 }
