@@ -59,8 +59,8 @@ fn write_outcome(w: &mut Writer, outcome: Result<Numbers, Refusal>)
 fn write_numbers(w: &mut Writer, numbers: &Numbers)
     ensures { Wrote (numbers_text numbers.now) w.old w.new }
 {
-    for (name, n) in AnnexFields.names().iter().zip(&all_numbers(numbers)) {
-        write_line(w, name, *n);
+    for (field, n) in AnnexFields.fields().iter().zip(&all_numbers(numbers)) {
+        write_line(w, field.name, *n);
     }
 }
 
@@ -102,9 +102,9 @@ fn write_refusal(w: &mut Writer, refusal: Refusal)
     ensures short { length (refusal_text refusal) ≤ 400 }
 {
     let (number, line, place) = refusal.numbers();
-    w.part(b"refused".as_slice(), Ending::Part);
-    w.part(b"line".as_slice(), Ending::Part);
-    w.part(b"place".as_slice(), Ending::Line);
+    w.part::<&[u8]>(b"refused", Ending::Part);
+    w.part::<&[u8]>(b"line", Ending::Part);
+    w.part::<&[u8]>(b"place", Ending::Line);
     w.part(number, Ending::Part);
     w.part(line, Ending::Part);
     w.part(place, Ending::Line);

@@ -5,5 +5,5 @@ use Rattle.annexreport.specs.Report.{field_lines, numbers_text}
 use Rattle.annexreport.proofs.write_numbers.Given as goal
 
 -- the lines from this field on are left
-abbrev pub invariant-loop-name : goal.invariant-loop-name
-invariant-loop-name l = Going (numbers_text l.numbers) (text_of (field_lines l.numbers (length l.yielded) (21 - length l.yielded))) l.initial.w l.w
+abbrev pub invariant-loop-field : goal.invariant-loop-field
+invariant-loop-field l = Going (numbers_text l.numbers) (text_of (field_lines l.numbers (length l.yielded) (21 - length l.yielded))) l.initial.w l.w
