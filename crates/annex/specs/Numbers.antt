@@ -4,6 +4,7 @@ use Rattle.std.specs.List.{range_with_len}
 use Rattle.eurocode.specs.declared.Situation.{Situation}
 use Rattle.eurocode.specs.declared.Situation.TheVariants.{Persistent, Accidental}
 use Rattle.eurocode.specs.Tables.{diameters, beside}
+use Rattle.annex.specs.declared.numbers.Factor.{Factor}
 use Rattle.annex.specs.declared.numbers.Numbers.{Numbers}
 
 -- the fields in their order: γc and γs, each in the persistent and in the accidental situation, αct, αcc, k1, k2, km, ks,
@@ -22,15 +23,14 @@ ranges =
 
 -- the numbers by field
 abbrev pub fields_of : Numbers → List ℕ
-fields_of n = n.gc1 ∷ n.gc2 ∷ n.gs1 ∷ n.gs2 ∷ n.act ∷ n.acc ∷ n.k1 ∷ n.k2 ∷ n.km ∷ n.ks ∷ n.multiples
+fields_of n =
+    n.gc.persistent ∷ n.gc.accidental ∷ n.gs.persistent ∷ n.gs.accidental ∷ n.act ∷ n.acc ∷ n.k1 ∷ n.k2 ∷ n.km ∷ n.ks ∷ n.multiples
 
 -- the numbers from their list by field; a missing one counts as 0
 abbrev pub numbers_of : List ℕ → Numbers
 numbers_of ns = record {
-  gc1 = slice_index ns 0;
-  gc2 = slice_index ns 1;
-  gs1 = slice_index ns 2;
-  gs2 = slice_index ns 3;
+  gc = record { persistent = slice_index ns 0; accidental = slice_index ns 1 };
+  gs = record { persistent = slice_index ns 2; accidental = slice_index ns 3 };
   act = slice_index ns 4;
   acc = slice_index ns 5;
   k1 = slice_index ns 6;
@@ -43,10 +43,8 @@ numbers_of ns = record {
 -- what the standard recommends
 abbrev pub recommended : Numbers
 recommended = record {
-  gc1 = 150;
-  gc2 = 120;
-  gs1 = 115;
-  gs2 = 100;
+  gc = record { persistent = 150; accidental = 120 };
+  gs = record { persistent = 115; accidental = 100 };
   act = 100;
   acc = 100;
   k1 = 10;
@@ -56,15 +54,17 @@ recommended = record {
   multiples = 4 ∷ 4 ∷ 4 ∷ 4 ∷ 4 ∷ 4 ∷ 7 ∷ 7 ∷ 7 ∷ 7 ∷ 7 ∷ [];
 }
 
--- γc in a design situation
-abbrev pub gc_of : Numbers → Situation → ℕ
-gc_of n Persistent = n.gc1
-gc_of n Accidental = n.gc2
+-- a factor in a design situation
+abbrev pub in_situation : Factor → Situation → ℕ
+in_situation f Persistent = f.persistent
+in_situation f Accidental = f.accidental
 
--- γs in a design situation
+-- γc and γs in a design situation
+abbrev pub gc_of : Numbers → Situation → ℕ
+gc_of n s = in_situation n.gc s
+
 abbrev pub gs_of : Numbers → Situation → ℕ
-gs_of n Persistent = n.gs1
-gs_of n Accidental = n.gs2
+gs_of n s = in_situation n.gs s
 
 -- the least mandrel diameter of a bar of diameter φ, in bar diameters
 abbrev pub multiple_of : Numbers → ℕ → ℕ

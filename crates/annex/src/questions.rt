@@ -20,20 +20,14 @@ pub trait Annex {
     fn gc(&self, situation: Situation) -> u32
         ensures { result ≡ gc_of (means self.now) situation }
     {
-        match situation {
-            Situation::Persistent => self.numbers().gc1,
-            Situation::Accidental => self.numbers().gc2,
-        }
+        self.numbers().gc.in_situation(situation)
     }
 
     // γs in a situation, in hundredths.
     fn gs(&self, situation: Situation) -> u32
         ensures { result ≡ gs_of (means self.now) situation }
     {
-        match situation {
-            Situation::Persistent => self.numbers().gs1,
-            Situation::Accidental => self.numbers().gs2,
-        }
+        self.numbers().gs.in_situation(situation)
     }
 
     // αct, in hundredths.

@@ -9,7 +9,7 @@ ghost use Rattle.annex.specs.Numbers.{fields_of};
 ghost use Rattle.national.specs.Reading.{annex_of};
 ghost use Rattle.annexreport.specs.Report.{numbers_text, refusal_text, report_of, Reportable};
 
-use annex::{Annex, Numbers};
+use annex::{Annex, NUMBERS, Numbers};
 use national::{AnnexFields, NationalAnnex};
 use reader::Named;
 use refusal::Refusal;
@@ -17,9 +17,6 @@ use writer::{Ending, Writer};
 
 // A buffer of so many bytes holds every report of an annex.
 pub const MOST_REPORT: usize = 400;
-
-// How many numbers an annex has.
-const FIELDS: usize = 21;
 
 // Reads an annex text, and lays the answer over the buffer's start, as much of it as fits; says how many bytes that are.
 pub fn report(text: &[u8], buffer: &mut [u8]) -> usize
@@ -59,7 +56,11 @@ fn write_outcome(w: &mut Writer, outcome: Result<Numbers, Refusal>)
 fn write_numbers(w: &mut Writer, numbers: &Numbers)
     ensures { Wrote (numbers_text numbers.now) w.old w.new }
 {
-    for (field, n) in AnnexFields.fields().iter().zip(&all_numbers(numbers)) {
+    for (field, n) in AnnexFields
+        .fields()
+        .iter()
+        .zip(&<[u32; NUMBERS]>::from(*numbers))
+    {
         write_line(w, field.name, *n);
     }
 }
@@ -70,30 +71,6 @@ fn write_line(w: &mut Writer, name: &[u8], n: u32)
 {
     w.part(name, Ending::Part);
     w.part(n, Ending::Line);
-}
-
-// The numbers in the order of their names.
-fn all_numbers(numbers: &Numbers) -> [u32; FIELDS]
-    ensures { result ≡ fields_of numbers.now }
-{
-    let Numbers {
-        gc1,
-        gc2,
-        gs1,
-        gs2,
-        act,
-        acc,
-        k1,
-        k2,
-        km,
-        ks,
-        multiples,
-    } = *numbers;
-    let [m6, m8, m10, m12, m14, m16, m20, m25, m28, m32, m40] = multiples;
-    [
-        gc1, gc2, gs1, gs2, act, acc, k1, k2, km, ks, m6, m8, m10, m12, m14, m16, m20, m25, m28,
-        m32, m40,
-    ]
 }
 
 // The names of a refusal's numbers, and the numbers below them.

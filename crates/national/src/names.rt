@@ -6,11 +6,9 @@ ghost use Rattle.annex.specs.Numbers.{annex_names};
 ghost use Rattle.national.specs.Acceptance.{annex_fields};
 ghost use Rattle.reader.proofs.Naming.{well_named};
 
+use annex::NUMBERS;
 use fields::{Field, Values};
 use reader::Named;
-
-// How many numbers an annex has.
-pub(crate) const FIELDS: usize = 21;
 
 // By field its name, and the least and the greatest number.
 const ANNEX_FIELDS: &[Field] = &[
@@ -104,7 +102,7 @@ const ANNEX_FIELDS: &[Field] = &[
 #[derive(Clone, Copy)]
 pub struct AnnexFields;
 
-impl Named<FIELDS> for AnnexFields {
+impl Named<NUMBERS> for AnnexFields {
     ghost names = { λ _. annex_names };
 
     ghost counted = { λ _. refl };

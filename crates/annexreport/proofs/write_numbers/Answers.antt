@@ -19,10 +19,10 @@ loop-field-preserved c =
     let fields = c.fields.result.now in
     let named : map (λ f. f.name.now) fields ≡ annex_names = sym (names_are fields) ∙ c.fields.ensures.names in
     let k = length c.loop-field.yielded in
-    let t = zip_turn fields c.all_numbers.result c.loop-field.yielded c.into_iter-field-iterator.result c.loop-field.field-iterator c.next.new.self c.next.result (search rules) (search rules) c.loop-field.yielded_by _ c.in-Some.is c.next.ensures.steps in
+    let t = zip_turn fields c.from.result c.loop-field.yielded c.into_iter-field-iterator.result c.loop-field.field-iterator c.next.new.self c.next.result (search rules) (search rules) c.loop-field.yielded_by _ c.in-Some.is c.next.ensures.steps in
     let below : k < 21 = omega (arith, t.0, length-map fields (λ f. f.name.now), ap length named) in
     let name : c.in-Some.field.now.name.now ≡ get_or annex_names k [] = ap (λ f. f.name.now) (t.2 c.in-Some.field.now) ∙ sym (get_or-map (λ f. f.name.now) fields k c.in-Some.field.now [] t.0) ∙ ap (λ l. get_or l k []) named in
-    let number : c.in-Some.n.now ≡ get_or (fields_of n) k 0 = t.3 0 ∙ ap (λ l. get_or l k 0) c.all_numbers.ensures in
+    let number : c.in-Some.n.now ≡ get_or (fields_of n) k 0 = t.3 0 ∙ ap (λ l. get_or l k 0) c.from.ensures in
     let more = going_more c.loop-field.invariant (fields_more n k 21 below) (wrote_as (λ i. line_text (name i ∷ decimal (number i) ∷ [])) c.write_line.ensures) in
     subst (λ m. Going (numbers_text n) (text_of (field_lines n m (21 - m))) c.args.w.now c.write_line.new.w) (sym (length_push c.loop-field.yielded (c.in-Some.field, c.in-Some.n))) more
 
@@ -30,6 +30,6 @@ pub returns : goal.returns
 returns c =
     let fields = c.fields.result.now in
     let named : map (λ f. f.name.now) fields ≡ annex_names = sym (names_are fields) ∙ c.fields.ensures.names in
-    let e = zip_end fields c.all_numbers.result c.loop-field.yielded c.into_iter-field-iterator.result c.loop-field.field-iterator c.next.new.self c.next.result (search rules) (search rules) c.loop-field.yielded_by c.in-None.is c.next.ensures.steps in
-    let long : length c.all_numbers.result ≡ 21 = search rules in
+    let e = zip_end fields c.from.result c.loop-field.yielded c.into_iter-field-iterator.result c.loop-field.field-iterator c.next.new.self c.next.result (search rules) (search rules) c.loop-field.yielded_by c.in-None.is c.next.ensures.steps in
+    let long : length c.from.result ≡ 21 = search rules in
     going_all c.loop-field.invariant (fields_all c.args.numbers.now (length c.loop-field.yielded) 21 (omega (arith, e, long, length-map fields (λ f. f.name.now), ap length named)))

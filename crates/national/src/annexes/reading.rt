@@ -7,7 +7,8 @@ ghost use Rattle.national.specs.Annexes.{means_of};
 ghost use Rattle.national.specs.Reading.{written_of, annex_of, Grants, BreaksFirst, Leaves};
 
 use crate::annexes::NationalAnnex;
-use crate::names::{AnnexFields, FIELDS};
+use crate::names::AnnexFields;
+use annex::NUMBERS;
 use reader::Header;
 use refusal::{Located, Refusal};
 use text::Lexer;
@@ -16,7 +17,7 @@ use text::Lexer;
 const VALUE_LINE: u32 = 2;
 
 // The numbers that an annex text has on its one line of values, by field.
-fn written(text: &[u8]) -> Result<[u32; FIELDS], Refusal>
+fn written(text: &[u8]) -> Result<[u32; NUMBERS], Refusal>
     ensures { result ≡ written_of text.now }
 {
     let mut lexer = Lexer::open(text)?;

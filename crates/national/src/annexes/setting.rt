@@ -8,8 +8,7 @@ ghost use Rattle.annex.specs.Keeping.{ranged_decides, rising_decides};
 
 use crate::acceptance::accepted;
 use crate::annexes::NationalAnnex;
-use crate::names::FIELDS;
-use annex::{Annex, Numbers, RECOMMENDED};
+use annex::{Annex, NUMBERS, Numbers, RECOMMENDED};
 use refusal::Refusal;
 
 impl NationalAnnex {
@@ -23,7 +22,7 @@ impl NationalAnnex {
     }
 
     // Takes the numbers that these fields list, or leaves the annex as it is.
-    pub(crate) fn set(&mut self, fields: &[u32; FIELDS]) -> Result<(), Refusal>
+    pub(crate) fn set(&mut self, fields: &[u32; NUMBERS]) -> Result<(), Refusal>
         ensures answers { result ≡ on_ok (λ _. tt) (accepted_of fields.now) }
         ensures leaves { MatchResult result (λ _. means_of self.new ≡ numbers_of fields.now) (λ _. self.new ≡ self.old) }
     {
