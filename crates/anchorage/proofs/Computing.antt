@@ -191,3 +191,16 @@ leb_scaled a b a' b' h k = grind (arith, nat_tests)
 pub mandrel_code : (b : Bar) → leb (b.area * b.stress * b.gc * (4 * b.dia + b.pitch)) (b.mandrel * (b.acc * b.fck * 200 * b.dia * b.pitch)) ≡ reaches b.mandrel (least_mandrel b)
 unfolding reaches least_mandrel fcd ◌·◌ ◌÷◌ ◌plus◌
 mandrel_code b = leb_scaled _ _ _ _ (omega arith) (omega arith)
+
+-- what proves each function of a program: of the basic length, α3, α6, α2·α3·α5, a lap, the figure
+pub ruleset basic_length = (lb_code, lb_top)
+
+pub ruleset transverse_steel = (lap_steel, beam_steel, slab_steel)
+
+pub ruleset share_lapped = (share_low, share_second, share_third, share_high, share_top)
+
+pub ruleset product = (tension_code, compression_code, product_top)
+
+pub ruleset lap_length = (lap_product_top, l0_code)
+
+pub ruleset longest = (l0_top, lbd_top)

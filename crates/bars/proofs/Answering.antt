@@ -1,5 +1,7 @@
 -- The answers of the bar book, from what its functions compute. Assumes nothing.
 use Rattle.std.proofs.Common.{◌≡◌, ℕ, suc, ◌+◌, ◌-◌, ◌≤◌, Bool, true, false, cond, ◌∷◌, get_or, is_ok, Some, None, Option, unwrap_or, sym, refl, ap, ◌∙◌, ap₂, arith}
+use Rattle.std.proofs.lemmas.Bool.{cond-true}
+use Rattle.std.proofs.lemmas.Option.{cond_some}
 use Rattle.eurocode.specs.declared.Situation.{Situation}
 use Rattle.annex.specs.declared.numbers.Numbers.{Numbers}
 use Rattle.anchorage.specs.declared.Bar.{Bar}
@@ -13,10 +15,6 @@ use Rattle.bars.specs.Details.{detail_of, bar_of}
 use Rattle.bars.specs.Tests.{test_of}
 use Rattle.bars.specs.Meaning.{bar_figure, bar_meets, bar_meaning}
 
-there : (b : Bool) (x y : Bar) → Some x ≡ cond b (Some y) None → (b ≡ true) × (x ≡ y)
-there true x y e = (refl, cc)
-there false x y e = absurd (let z : ◌≡◌ {A = ℕ} 0 1 = cc in omega arith)
-
 or_zero_is : (o : Option ℕ) → unwrap_or o 0 ≡ or_zero o
 or_zero_is None = refl
 or_zero_is (Some k) = refl
@@ -24,33 +22,34 @@ or_zero_is (Some k) = refl
 module _ (n : Numbers) (s : Situation) (l : BarLine) where
   -- of a line that passes, with its detail d and its bar b
   module _ (d : Detail) (b : Bar) (ed : d ≡ detail_of l) (eb : Some b ≡ cond (is_ok (test_of n s l)) (Some (bar_of n s l)) None) where
+    passed : (is_ok (test_of n s l) ≡ true) × (bar_of n s l ≡ b)
+    passed = cond_some (is_ok (test_of n s l)) (bar_of n s l) b (sym eb)
+
     pub figure_answer : figure d b ≡ figure_of (bar_meaning n) s l
     unfolding bar_figure
-    figure_answer =
-        let at = there (is_ok (test_of n s l)) b (bar_of n s l) eb in
-        ap₂ figure ed at.1 ∙ ap (λ t. cond t (bar_figure n s l) 0) (sym at.0)
+    figure_answer = ap₂ figure ed (sym passed.1) ∙ sym (cond-true (is_ok (test_of n s l)) (bar_figure n s l) 0 passed.0)
 
     tests_are : rules d b ≡ rules (detail_of l) (bar_of n s l)
-    tests_are = let at = there (is_ok (test_of n s l)) b (bar_of n s l) eb in ap₂ rules ed at.1
+    tests_are = ap₂ rules ed (sym passed.1)
 
     pub mark_answer : unwrap_or (first_failed (test_at (rules d b)) 0 8) 0 ≡ mark_of (bar_meaning n) s l
     unfolding bar_meets
     mark_answer =
-        let at = there (is_ok (test_of n s l)) b (bar_of n s l) eb in
-        or_zero_is (first_failed (test_at (rules d b)) 0 8) ∙ ap (λ ts. or_zero (first_failed (test_at ts) 0 8)) tests_are ∙ ap (λ t. or_zero (first_failed (λ i. cond t (bar_meets n s (i + 1) l) true) 0 8)) (sym at.0)
+        or_zero_is (first_failed (test_at (rules d b)) 0 8) ∙ ap (λ ts. or_zero (first_failed (test_at ts) 0 8)) tests_are
+        ∙ ap (λ t. or_zero (first_failed (λ i. cond t (bar_meets n s (i + 1) l) true) 0 8)) (sym passed.0)
 
     pub meets_answer : (r : ℕ) → 1 ≤ r → get_or (rules d b) (r - 1) true ≡ meets_of (bar_meaning n) s r l
     unfolding bar_meets
     meets_answer r h =
-        let at = there (is_ok (test_of n s l)) b (bar_of n s l) eb in
         let e : suc (r - 1) ≡ r = omega arith in
-        ap (λ ts. get_or ts (r - 1) true) tests_are ∙ ap (λ k. get_or (true ∷ rules (detail_of l) (bar_of n s l)) k true) e ∙ ap (λ t. cond t (bar_meets n s r l) true) (sym at.0)
+        ap (λ ts. get_or ts (r - 1) true) tests_are ∙ ap (λ k. get_or (true ∷ rules (detail_of l) (bar_of n s l)) k true) e
+        ∙ sym (cond-true (is_ok (test_of n s l)) (bar_meets n s r l) true passed.0)
 
-  -- there is no rule 0, and none past the eighth
-  pub meets_none : (r : ℕ) → get_or (true ∷ rules (detail_of l) (bar_of n s l)) r true ≡ true → true ≡ meets_of (bar_meaning n) s r l
+  -- there is no rule 0
+  pub meets_none : (r : ℕ) → r ≡ 0 → true ≡ meets_of (bar_meaning n) s r l
   unfolding bar_meets
-  meets_none r e = sym (go (is_ok (test_of n s l)))
+  meets_none r e = sym (ap (λ k. meets_of (bar_meaning n) s k l) e ∙ go (is_ok (test_of n s l)))
     where
-      go : (t : Bool) → cond t (get_or (true ∷ rules (detail_of l) (bar_of n s l)) r true) true ≡ true
-      go true = e
+      go : (t : Bool) → cond t true true ≡ true
+      go true = refl
       go false = refl

@@ -12,6 +12,7 @@ use anchorage::{Bar, Bond, Detail, Layers, Shape, Ties};
 use annex::Annex;
 use eurocode::{Diameter, Situation, Strength, TabledSize};
 
+// The test of a line admits 1, straight, 2, a bend or hook, and 3, a loop.
 fn shape_of(number: u32) -> Shape
     ensures { result ≡ shape_of number }
 {
@@ -22,6 +23,7 @@ fn shape_of(number: u32) -> Shape
     }
 }
 
+// The test of a line admits 1, good, and 2, other.
 fn bond_of(number: u32) -> Bond
     ensures { result ≡ bond_of number }
 {
@@ -31,6 +33,7 @@ fn bond_of(number: u32) -> Bond
     }
 }
 
+// The test of a line admits 1, one, and 2, several.
 fn layers_of(number: u32) -> Layers
     ensures { result ≡ layers_of number }
 {
@@ -40,6 +43,7 @@ fn layers_of(number: u32) -> Layers
     }
 }
 
+// The test of a line admits 1, links or U bars, and 0, other.
 fn ties_of(number: u32) -> Ties
     ensures { result ≡ ties_of number }
 {

@@ -116,7 +116,7 @@ impl TestedBar {
     }
 
     // α3, in millionths.
-    #[tactic(auto, using(anchorage::proofs::Computing::lap_steel, anchorage::proofs::Computing::beam_steel, anchorage::proofs::Computing::slab_steel))]
+    #[tactic(auto, using(anchorage::proofs::Computing::transverse_steel))]
     fn alpha3(&self) -> u64
         ensures value { result ≡ ths 1000000 (α3 self.now.detail self.now.bar) }
         ensures most { result ≤ 1000000 }
@@ -153,7 +153,7 @@ impl TestedBar {
     }
 
     // α6, in millionths.
-    #[tactic(auto, using(anchorage::proofs::Computing::share_low, anchorage::proofs::Computing::share_second, anchorage::proofs::Computing::share_third, anchorage::proofs::Computing::share_high, anchorage::proofs::Computing::share_top), unfolding(measure::specs::Rounding::ths, measure::specs::Rounding::ceiling))]
+    #[tactic(auto, using(anchorage::proofs::Computing::share_lapped), unfolding(measure::specs::Rounding::ths, measure::specs::Rounding::ceiling))]
     pub(crate) fn alpha6(&self) -> u64
         ensures value { result ≡ ths 1000000 (α6 self.now.bar) }
         ensures most { result ≤ 1500000 }
@@ -168,7 +168,7 @@ impl TestedBar {
     }
 
     // α2·α3·α5, at least 0.7, in millionths; 1 in compression.
-    #[tactic(auto, using(anchorage::proofs::Computing::tension_code, anchorage::proofs::Computing::compression_code, anchorage::proofs::Computing::product_top))]
+    #[tactic(auto, using(anchorage::proofs::Computing::product))]
     pub(crate) fn alpha235(&self) -> u64
         ensures value { result ≡ (α235 rounded self.now.detail self.now.bar).num }
         ensures most { result ≤ 1000000 }

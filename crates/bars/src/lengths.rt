@@ -8,7 +8,7 @@ use measure::div_up;
 
 impl TestedBar {
     // The basic length, in hundredths of mm.
-    #[tactic(auto, using(anchorage::proofs::Computing::lb_code, anchorage::proofs::Computing::lb_top))]
+    #[tactic(auto, using(anchorage::proofs::Computing::basic_length))]
     fn basic_length(&self) -> u64
         ensures value { result ≡ ths 100 (lb self.now.bar) }
         ensures most { result ≤ 941100 }
@@ -40,7 +40,7 @@ impl TestedBar {
     }
 
     // The length of a lap, in mm.
-    #[tactic(auto, using(anchorage::proofs::Computing::lap_product_top, anchorage::proofs::Computing::l0_code))]
+    #[tactic(auto, using(anchorage::proofs::Computing::lap_length))]
     fn lap_length(&self) -> u64
         ensures { result ≡ ths 1 (l0 rounded self.now.detail self.now.bar) }
     {
@@ -55,7 +55,7 @@ impl TestedBar {
     }
 
     // The figure, in mm.
-    #[tactic(auto, using(anchorage::proofs::Computing::l0_top, anchorage::proofs::Computing::lbd_top), unfolding(anchorage::specs::Lengths::figure, anchorage::specs::Lengths::required))]
+    #[tactic(auto, using(anchorage::proofs::Computing::longest), unfolding(anchorage::specs::Lengths::figure, anchorage::specs::Lengths::required))]
     pub(crate) fn required_length(&self) -> u32
         ensures { result ≡ figure self.now.detail self.now.bar }
     {

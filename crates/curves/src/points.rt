@@ -24,6 +24,7 @@ fn is_shared(joint: Joint) -> bool
 }
 
 // The bar line of an entry.
+#[tactic(auto, using(eurocode::proofs::Rising::diameter_within))]
 fn line_of(entry: Entry, joint: Joint, stress: u32) -> BarLine
     ensures { result ≡ entry_line joint (mm_of entry.diameter) (fck_of entry.strength) entry.bond stress }
 {
@@ -61,6 +62,7 @@ fn line_of(entry: Entry, joint: Joint, stress: u32) -> BarLine
 
 // The length of an entry at a stress, in mm, up to the full stress and for laps of 1 to 100 percent. It never falls as the
 // stress, the share or the diameter grows, whatever their values.
+#[tactic(auto, unfolding(crate::specs::Points::length_at))]
 pub fn length(entry: Entry, joint: Joint, stress: u32) -> Option<u32>
     ensures value { result ≡ point_of joint (mm_of entry.diameter) (fck_of entry.strength) entry.bond stress }
     ensures rises { IfSome result (λ length. (more : Joint) (φ σ : ℕ) → NoLess more joint → T (tabled φ diameters) → mm_of entry.diameter ≤ φ → stress ≤ σ → on_curve more σ ≡ true → length ≤ length_at more φ (fck_of entry.strength) entry.bond σ) }

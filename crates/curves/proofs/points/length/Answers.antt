@@ -1,4 +1,4 @@
-use Rattle.std.proofs.Common.{◌≡◌, true, cond, Some, None, sym, ap, ◌∙◌, arith}
+use Rattle.std.proofs.Common.{◌≡◌, true, sym, ap, ◌∙◌, arith}
 use Rattle.std.proofs.lemmas.Bool.{and_from, le-leb}
 use Rattle.eurocode.specs.declared.Situation.TheVariants.{Persistent}
 use Rattle.eurocode.specs.Sizes.{mm_of, fck_of}
@@ -10,9 +10,9 @@ use Rattle.curves.specs.Points.{length_at, on_curve}
 use Rattle.curves.proofs.Growing.{grows}
 use Rattle.curves.proofs.points.length.Goals as goal
 
-pub returns : goal.returns
+pub returns-clause-rises : goal.returns-clause-rises
 unfolding length_at
-returns c =
+returns-clause-rises c =
     let joint = c.args.joint in
     let φ = mm_of c.args.entry.diameter in
     let fck = fck_of c.args.entry.strength in
@@ -20,7 +20,4 @@ returns c =
     let stress = c.args.stress in
     let on : on_curve joint stress ≡ true = and_from _ _ (le-leb stress 4347 (omega arith)) (sym c.if-not-is_shared.ensures) in
     let is : c.figure.result ≡ length_at joint φ fck bond stress = c.figure.ensures ∙ ap (figure_of (bar_meaning recommended) Persistent) c.line_of.ensures in
-    record {
-      value = ap Some is ∙ sym (ap (λ b. cond b (Some (length_at joint φ fck bond stress)) None) on);
-      rises = λ more φ' σ j t d h on'. omega (arith, is, grows joint more φ φ' fck bond stress σ (mm_tabled c.args.entry.diameter) t (fck_tabled c.args.entry.strength) j d h on on');
-    }
+    λ more φ' σ j t d h on'. omega (arith, is, grows joint more φ φ' fck bond stress σ (mm_tabled c.args.entry.diameter) t (fck_tabled c.args.entry.strength) j d h on on')
