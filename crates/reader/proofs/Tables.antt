@@ -164,30 +164,6 @@ placing_all ns entry [] found place h e = ap all_placed h.table ∙ h.left
 placing_all ns entry ([] ∷ ls) found place h e = ap all_placed h.table ∙ h.left
 placing_all ns entry ((p ∷ ps) ∷ ls) found place h e = absurd (apart (sym e))
 
--- the places of a table, one by one
-module _ (found : List (Option ℕ)) (places : List ℕ) (field : ℕ) (h : behind (take field places) (all_placed (drop field found)) ≡ all_placed found) where
-  here : field < length found → behind (take field places) (place_then (get_or found field None) (all_placed (drop (field + 1) found))) ≡ all_placed found
-  here lt = ap (behind (take field places)) (sym (at_drop_more all_placed found field None lt)) ∙ h
-
-  pub placed_more : (place : ℕ) → field < length found → field < length places → Ok place ≡ ok_or (get_or found field None) Missing → behind (take (field + 1) (set places field place)) (all_placed (drop (field + 1) found)) ≡ all_placed found
-  placed_more place lt room is =
-      let rest = all_placed (drop (field + 1) found) in
-      ap (λ xs. behind xs rest) (take_more_set places field place room) ∙ behind_more (take field places) place rest ∙ ap (λ o. behind (take field places) (place_then o rest)) (sym (some_ok (get_or found field None) place is)) ∙ here lt
-    where
-      some_ok : (o : Option ℕ) (p : ℕ) → Ok p ≡ ok_or o Missing → o ≡ Some p
-      some_ok None p e = absurd (let z : ◌≡◌ {A = ℕ} 0 1 = cc in omega arith)
-      some_ok (Some q) p e = cc
-
-  pub placed_stops : (e : Refusal) → field < length found → Err e ≡ ok_or (get_or found field None) Missing → Err Missing ≡ all_placed found
-  placed_stops e lt is = ap (λ o. behind (take field places) (place_then o (all_placed (drop (field + 1) found)))) (sym (none_err (get_or found field None) is)) ∙ here lt
-    where
-      none_err : (o : Option ℕ) → Err e ≡ ok_or o Missing → o ≡ None
-      none_err None k = refl
-      none_err (Some q) k = absurd (let z : ◌≡◌ {A = ℕ} 0 1 = cc in omega arith)
-
-  pub placed_all : length found ≤ field → length places ≤ field → Ok places ≡ all_placed found
-  placed_all past full = ap Ok (sym (append-nil places) ∙ ap (λ xs. xs ++ []) (sym (take_all field places full))) ∙ ap (behind (take field places)) (sym (at_drop_all all_placed found field past)) ∙ h
-
 -- the search for a name among the names
 pub finds : (name : Bytes) (borrowed : List (Bor Bytes)) (names : List Bytes) (r : Option ℕ) → MatchOption r (AllWithin (λ x. x.now ≢ name) borrowed 0 (length borrowed)) (λ i. (i < length borrowed) × HoldsAt (λ x. x.now ≡ name) borrowed i × AllWithin (λ x. x.now ≢ name) borrowed 0 i) → map (λ x. x.now) borrowed ≡ names → Finds name names r
 finds name [] names None h e = λ k lt _. omega (arith, ap length e)

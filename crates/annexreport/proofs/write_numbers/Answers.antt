@@ -23,10 +23,3 @@ loop-name-preserved c =
     let number : c.in-Some.n.now ≡ get_or (fields_of n) k 0 = t.3 0 ∙ ap (λ l. get_or l k 0) c.all_numbers.ensures in
     let more = going_more c.loop-name.invariant (fields_more n k 21 below) (wrote_as (λ i. line_text (name i ∷ decimal (number i) ∷ [])) c.write_line.ensures) in
     subst (λ m. Going (numbers_text n) (text_of (field_lines n m (21 - m))) c.args.w.now c.write_line.new.w) (sym (length_push c.loop-name.yielded (c.in-Some.name, c.in-Some.n))) more
-
-pub returns : goal.returns
-returns c =
-    let names = c.names.result.now in
-    let e = zip_end names c.all_numbers.result c.loop-name.yielded c.into_iter-name-iterator.result c.loop-name.name-iterator c.next.new.self c.next.result (search rules) (search rules) c.loop-name.yielded_by c.in-None.is c.next.ensures.steps in
-    let long : length c.all_numbers.result ≡ 21 = search rules in
-    going_all c.loop-name.invariant (fields_all c.args.numbers.now (length c.loop-name.yielded) 21 (omega (arith, e, long, length-map names (λ name. name.now), ap length c.names.ensures)))
