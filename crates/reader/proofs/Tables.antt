@@ -1,18 +1,15 @@
 -- The names of a header, one by one, and the table of their places. Assumes nothing.
-use Rattle.std.proofs.Common.{◌≡◌, ◌≢◌, ℕ, zero, suc, ◌+◌, ◌<◌, ◌≤◌, true, false, cond, not, ◌&&◌, List, [], ◌∷◌, ◌++◌, map, length, get_or, take, drop, set, replicate, is_some, Some, None, Ok, Err, Option, MatchOption, sym, refl, ap, ◌∙◌, subst, ⊎_elim, arith}
+use Rattle.std.proofs.Common.{◌≡◌, ◌≢◌, ℕ, zero, suc, ◌+◌, ◌<◌, ◌≤◌, true, false, cond, not, ◌&&◌, List, [], ◌∷◌, ◌++◌, map, length, get_or, set, replicate, is_some, Some, None, Err, Option, MatchOption, sym, refl, ap, ◌∙◌, subst, ⊎_elim, arith}
 use Rattle.std.specs.Borrow.{Bor}
 use Rattle.std.specs.List.{AllWithin, HoldsAt}
-use Rattle.std.specs.Option.{ok_or}
 use Rattle.std.specs.Str.{bytes_eq}
 use Rattle.std.proofs.lemmas.Slice.Eq.{bytes_eq-Decides}
-use Rattle.std.proofs.lemmas.List.{append-nil, at_drop_more, at_drop_all, take_all, take_more_set, same_lists, get_or-map, get_or-set_same, get_or-set_other, length-set, length-map, length_push}
+use Rattle.std.proofs.lemmas.List.{same_lists, get_or-map, get_or-set_same, get_or-set_other, length-set, length-map, length_push}
 use Rattle.std.proofs.lemmas.Bool.{cases_Bool, cases_eq, cond-true, cond-false, cond_both, and_from, and_left, and_right, not_from_true, false≢true}
 use Rattle.text.specs.Tokens.{this_line, later_lines, next_part, after_next}
-use Rattle.refusal.specs.declared.Refusal.{Refusal}
-use Rattle.refusal.specs.declared.Refusal.TheVariants.{Name, Missing}
+use Rattle.refusal.specs.declared.Refusal.TheVariants.{Name}
 use Rattle.text.specs.Texts.{Bytes, Parts}
-use Rattle.reader.specs.Names.{Unlike, Finds, place_from, place_in, stands, place_then, all_placed, places_from, places_of}
-use Rattle.reader.proofs.Turns.{behind, behind_more}
+use Rattle.reader.specs.Names.{Unlike, Finds, place_from, place_in, stands, places_from, places_of}
 
 -- a name's place
 same_true : (n h : List ℕ) → n ≡ h → bytes_eq n h ≡ true
@@ -158,11 +155,6 @@ placing_stops ns entry ((q ∷ ps) ∷ ls) found name place o h e f z = ap (λ n
 -- a field that has a place
 pub has_place : (found : List (Option ℕ)) (o : Option ℕ) (i : ℕ) → o ≡ Some i → is_some (get_or found i None) ≡ true → (j : ℕ) → o ≡ Some j → get_or found j None ≢ None
 has_place found o i is some j js none = let e : i ≡ j = same_some (sym is ∙ js) in false≢true (sym (ap (λ k. is_some (get_or found k None)) e ∙ ap is_some none) ∙ some)
-
-pub placing_all : (ns : List Bytes) (entry lines : List Parts) (found : List (Option ℕ)) (place : ℕ) → Placing ns entry lines found place → None ≡ next_part lines → all_placed found ≡ places_of ns (this_line entry)
-placing_all ns entry [] found place h e = ap all_placed h.table ∙ h.left
-placing_all ns entry ([] ∷ ls) found place h e = ap all_placed h.table ∙ h.left
-placing_all ns entry ((p ∷ ps) ∷ ls) found place h e = absurd (apart (sym e))
 
 -- the search for a name among the names
 pub finds : (name : Bytes) (borrowed : List (Bor Bytes)) (names : List Bytes) (r : Option ℕ) → MatchOption r (AllWithin (λ x. x.now ≢ name) borrowed 0 (length borrowed)) (λ i. (i < length borrowed) × HoldsAt (λ x. x.now ≡ name) borrowed i × AllWithin (λ x. x.now ≢ name) borrowed 0 i) → map (λ x. x.now) borrowed ≡ names → Finds name names r

@@ -1,16 +1,12 @@
 -- The values of a line, one by one, and their sorting by field. Assumes nothing.
-use Rattle.std.proofs.Common.{◌≡◌, ℕ, zero, suc, ◌+◌, ◌<◌, ◌≤◌, true, leb, List, [], ◌∷◌, ◌++◌, length, get_or, take, set, Some, None, Ok, Err, Option, Result, sym, refl, ap, ◌∙◌, subst, add-zero, arith}
-use Rattle.std.proofs.lemmas.List.{append_assoc, append-nil, take_more_set, take_all, length-set}
+use Rattle.std.proofs.Common.{◌≡◌, ℕ, zero, suc, ◌+◌, ◌<◌, ◌≤◌, true, leb, List, [], ◌∷◌, ◌++◌, length, get_or, take, Ok, Err, Result, sym, refl, ap, ◌∙◌, arith}
 use Rattle.std.proofs.lemmas.Bool.{and_parts, and_from, leb-true, le-leb}
-use Rattle.std.specs.Option.{ok_or}
 use Rattle.refusal.specs.declared.Refusal.{Refusal}
-use Rattle.refusal.specs.declared.Refusal.TheVariants.{Form}
-use Rattle.refusal.specs.Refusals.{at_line, at_place, on_ok, on_err}
-use Rattle.text.specs.Texts.{Bytes, Parts}
-use Rattle.text.specs.Tokens.{this_line, later_lines, next_part, after_next}
-use Rattle.text.specs.Values.{value_of}
+use Rattle.refusal.specs.Refusals.{at_line, on_ok, on_err}
+use Rattle.text.specs.Texts.{Parts}
+use Rattle.text.specs.Tokens.{this_line, later_lines}
 use Rattle.reader.specs.Places.{all_within}
-use Rattle.reader.specs.Lines.{value_then, values_from, line_of, line_then, lines_from}
+use Rattle.reader.specs.Lines.{values_from, line_of, line_then, lines_from}
 
 -- values in front of those that are still to come
 abbrev pub behind : List ℕ → Result (List ℕ) Refusal → Result (List ℕ) Refusal
@@ -21,20 +17,6 @@ pub record Reading (entry lines : List Parts) (values : List ℕ) (place : ℕ) 
   pub later : later_lines lines ≡ later_lines entry
   pub room : place + length (this_line lines) ≡ length values
   pub read : behind (take place values) (values_from (place + 1) (this_line lines)) ≡ values_from 1 (this_line entry)
-
-pub behind_none : (r : Result (List ℕ) Refusal) → behind [] r ≡ r
-behind_none (Ok vs) = refl
-behind_none (Err e) = refl
-
-pub behind_more : (xs : List ℕ) (v : ℕ) (r : Result (List ℕ) Refusal) → behind (xs ++ (v ∷ [])) r ≡ behind xs (on_ok (λ vs. v ∷ vs) r)
-behind_more xs v (Ok vs) = ap Ok (append_assoc xs (v ∷ []) vs)
-behind_more xs v (Err e) = refl
-
-pub reading_none : (entry : List Parts) (values : List ℕ) → length (this_line entry) ≡ length values → Reading entry entry values 0
-reading_none entry values e = record { later = refl; room = omega arith; read = behind_none _ }
-
-apart : {p : Bytes} → Some p ≡ None → ⊥
-apart e = let z : ◌≡◌ {A = ℕ} 0 1 = cc in omega arith
 
 -- places that pass their test lie in the line, and the other way round
 pub within_at : (n : ℕ) (ps : List ℕ) (f : ℕ) → all_within n ps ≡ true → f < length ps → (1 ≤ get_or ps f 0) × (get_or ps f 0 ≤ n)
@@ -50,17 +32,10 @@ length_under : {X : Type 0} (k : ℕ) (x : X) (r : Result (List X) Refusal) → 
 length_under k x (Ok ls) = ap Ok (omega arith)
 length_under k x (Err e) = refl
 
-length_start : {X : Type 0} (r : Result (List X) Refusal) → on_ok (λ ls. 0 + length ls) r ≡ on_ok length r
-length_start (Ok ls) = ap Ok (omega arith)
-length_start (Err e) = refl
-
 -- `line` lines of values are read and counted, and `lines` are ahead; `entry` was ahead behind the header
 pub record Checking (places : List ℕ) (entry lines : List Parts) (line : ℕ) : Type 0 where
   pub total : line + length lines ≡ length entry
   pub count : on_ok (λ ls. line + length ls) (lines_from places (line + 2) lines) ≡ on_ok length (lines_from places 2 entry)
-
-pub checking_none : (places : List ℕ) (entry : List Parts) → Checking places entry entry 0
-checking_none places entry = record { total = omega arith; count = length_start (lines_from places 2 entry) }
 
 line_here : (places : List ℕ) (entry lines : List Parts) (line : ℕ) → Checking places entry lines line → line < length entry → lines ≡ this_line lines ∷ later_lines lines
 line_here places entry [] line h lt = absurd (omega (arith, h.total))

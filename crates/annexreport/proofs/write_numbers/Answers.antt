@@ -1,11 +1,11 @@
 use Rattle.std.proofs.Common.{◌≡◌, ◌-◌, ◌<◌, [], ◌∷◌, length, get_or, decimal, sym, ap, ◌∙◌, subst, arith, rules}
 use Rattle.std.proofs.lemmas.List.{get_or-map, length-map, length_push}
-use Rattle.std.proofs.lemmas.Slice.Zip.{zip_turn, zip_end}
+use Rattle.std.proofs.lemmas.Slice.Zip.{zip_turn}
 use Rattle.text.specs.Texts.{line_text, text_of}
-use Rattle.writer.proofs.Writing.{Going, going_none, going_more, going_all, wrote_as}
+use Rattle.writer.proofs.Writing.{Going, going_none, going_more, wrote_as}
 use Rattle.annex.specs.Numbers.{annex_names, fields_of}
 use Rattle.annexreport.specs.Report.{field_lines, numbers_text}
-use Rattle.annexreport.proofs.Printing.{fields_more, fields_all}
+use Rattle.annexreport.proofs.Printing.{fields_more}
 use Rattle.annexreport.proofs.write_numbers.Goals as goal
 
 pub loop-name-init : goal.loop-name-init

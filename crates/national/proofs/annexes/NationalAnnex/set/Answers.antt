@@ -1,5 +1,3 @@
-use Rattle.std.proofs.Common.{ap}
-use Rattle.refusal.specs.Refusals.{on_ok}
 use Rattle.national.proofs.Accepting.{accepted_keeps}
 use Rattle.national.proofs.annexes.NationalAnnex.set.Goals as goal
 

@@ -1,6 +1,4 @@
-use Rattle.std.proofs.Common.{◌-◌, [], ◌∷◌, ◌++◌, get_or, sym, ap, ◌∙◌, arith}
-use Rattle.std.proofs.lemmas.List.{take_more_set, take_all, map_more, length-set}
-use Rattle.reader.specs.Lines.{by_field}
+use Rattle.std.proofs.Common.{arith}
 use Rattle.reader.proofs.Turns.{within_at}
 use Rattle.reader.proofs.headers.line.sort_by_field.Goals as goal
 
