@@ -1,5 +1,5 @@
 -- The lines of a report, one by one. Assumes nothing.
-use Rattle.std.proofs.Common.{◌≡◌, ℕ, suc, ◌+◌, ◌-◌, ◌<◌, ◌≤◌, true, false, [], ◌∷◌, ◌++◌, sym, ap, arith}
+use Rattle.std.proofs.Common.{◌≡◌, ℕ, suc, ◌+◌, ◌-◌, ◌<◌, true, false, [], ◌∷◌, ◌++◌, sym, ap, arith}
 use Rattle.std.proofs.lemmas.List.{append-nil}
 use Rattle.text.specs.Texts.{Bytes, Parts, part_text, line_text, text_of}
 use Rattle.writer.specs.declared.Writer.{Writer}
@@ -25,6 +25,3 @@ text_two a b p q = wrote_both p (wrote_as (sym (append-nil (line_text b))) q)
 -- the lines from a field on, up to `end`: its own and those behind it, or none
 pub fields_more : (n : Numbers) (i end : ℕ) → i < end → text_of (field_lines n i (end - i)) ≡ line_text (field_line n i) ++ text_of (field_lines n (i + 1) (end - (i + 1)))
 fields_more n i end h = let e : end - i ≡ suc (end - (i + 1)) = omega arith in ap (λ k. text_of (field_lines n i k)) e
-
-pub fields_all : (n : Numbers) (i end : ℕ) → end ≤ i → text_of (field_lines n i (end - i)) ≡ []
-fields_all n i end h = let e : end - i ≡ 0 = omega arith in ap (λ k. text_of (field_lines n i k)) e

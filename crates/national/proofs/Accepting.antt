@@ -4,7 +4,6 @@ use Rattle.std.specs.List.{AllWithin, HoldsAt, zip}
 use Rattle.std.specs.Option.{option_map}
 use Rattle.std.proofs.lemmas.List.{get_or-drop, get_or-map, length-drop}
 use Rattle.std.proofs.lemmas.Slice.Zip.{length-zip, get_or-zip}
-use Rattle.std.proofs.lemmas.List.FromFn.{fill_by_all}
 use Rattle.std.proofs.lemmas.Bool.{and_parts, and_from, and_left, and_right, le-leb, lt-leb, eq-eqb, both_ways, cases_order}
 use Rattle.refusal.specs.declared.Refusal.TheVariants.{AnnexRange, Falling}
 use Rattle.annex.specs.declared.numbers.Numbers.{Numbers}
@@ -16,10 +15,6 @@ use Rattle.annex.specs.Laws.{Ranged, Rising, in_range, no_fall, first_out, first
 use Rattle.national.specs.Acceptance.{annex_fields, refused_at, accepted_of, AcceptedLaw}
 use Rattle.checklist.proofs.Failing.{first_law, same_first}
 use Rattle.annex.specs.Keeping.{ranged_decides, rising_decides}
-
--- 21 numbers are those that their fields list
-pub fields_numbers : (ns : List ℕ) → length ns ≡ 21 → fields_of (numbers_of ns) ≡ ns
-fields_numbers ns h = sym (fill_by_all (λ i. get_or ns i 0) ns 21 0 h (λ k _. refl))
 
 -- A search through a list, of which the p-th from 0 is the place i + p of a test, and the number from 1 of the first place
 -- that fails. Yes is what is searched for, and No what is passed over.

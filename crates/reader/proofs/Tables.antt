@@ -1,17 +1,14 @@
 -- The names of a header, one by one, and the table of their places. Assumes nothing.
-use Rattle.std.proofs.Common.{◌≡◌, ◌≢◌, ℕ, zero, suc, ◌+◌, ◌<◌, ◌≤◌, true, false, cond, not, ◌&&◌, List, [], ◌∷◌, ◌++◌, map, length, get_or, take, drop, set, replicate, is_some, Some, None, Ok, Err, Option, MatchOption, sym, refl, ap, ◌∙◌, subst, ⊎_elim, arith}
+use Rattle.std.proofs.Common.{◌≡◌, ◌≢◌, ℕ, zero, suc, ◌+◌, ◌<◌, ◌≤◌, true, false, cond, not, ◌&&◌, List, [], ◌∷◌, ◌++◌, map, length, get_or, set, replicate, is_some, Some, None, Err, Option, MatchOption, sym, refl, ap, ◌∙◌, subst, ⊎_elim, arith}
 use Rattle.std.specs.List.{AllWithin, HoldsAt}
-use Rattle.std.specs.Option.{ok_or}
 use Rattle.std.specs.Str.{bytes_eq}
 use Rattle.std.proofs.lemmas.Slice.Eq.{bytes_eq-Decides}
-use Rattle.std.proofs.lemmas.List.{append-nil, at_drop_more, at_drop_all, take_all, take_more_set, same_lists, get_or-map, get_or-set_same, get_or-set_other, length-set, length-map, length_push}
+use Rattle.std.proofs.lemmas.List.{same_lists, get_or-map, get_or-set_same, get_or-set_other, length-set, length-map, length_push}
 use Rattle.std.proofs.lemmas.Bool.{cases_Bool, cases_eq, cond-true, cond-false, cond_both, and_from, and_left, and_right, not_from_true, false≢true}
 use Rattle.text.specs.Tokens.{this_line, later_lines, next_part, after_next}
-use Rattle.refusal.specs.declared.Refusal.{Refusal}
-use Rattle.refusal.specs.declared.Refusal.TheVariants.{Name, Missing}
+use Rattle.refusal.specs.declared.Refusal.TheVariants.{Name}
 use Rattle.text.specs.Texts.{Bytes, Parts}
-use Rattle.reader.specs.Names.{Unlike, Finds, place_from, place_in, stands, place_then, all_placed, places_from, places_of}
-use Rattle.reader.proofs.Turns.{behind, behind_more}
+use Rattle.reader.specs.Names.{Unlike, Finds, place_from, place_in, stands, places_from, places_of}
 
 -- a name's place
 same_true : (n h : List ℕ) → n ≡ h → bytes_eq n h ≡ true
@@ -157,35 +154,6 @@ placing_stops ns entry ((q ∷ ps) ∷ ls) found name place o h e f z = ap (λ n
 -- a field that has a place
 pub has_place : (found : List (Option ℕ)) (o : Option ℕ) (i : ℕ) → o ≡ Some i → is_some (get_or found i None) ≡ true → (j : ℕ) → o ≡ Some j → get_or found j None ≢ None
 has_place found o i is some j js none = let e : i ≡ j = same_some (sym is ∙ js) in false≢true (sym (ap (λ k. is_some (get_or found k None)) e ∙ ap is_some none) ∙ some)
-
-pub placing_all : (ns : List Bytes) (entry lines : List Parts) (found : List (Option ℕ)) (place : ℕ) → Placing ns entry lines found place → None ≡ next_part lines → all_placed found ≡ places_of ns (this_line entry)
-placing_all ns entry [] found place h e = ap all_placed h.table ∙ h.left
-placing_all ns entry ([] ∷ ls) found place h e = ap all_placed h.table ∙ h.left
-placing_all ns entry ((p ∷ ps) ∷ ls) found place h e = absurd (apart (sym e))
-
--- the places of a table, one by one
-module _ (found : List (Option ℕ)) (places : List ℕ) (field : ℕ) (h : behind (take field places) (all_placed (drop field found)) ≡ all_placed found) where
-  here : field < length found → behind (take field places) (place_then (get_or found field None) (all_placed (drop (field + 1) found))) ≡ all_placed found
-  here lt = ap (behind (take field places)) (sym (at_drop_more all_placed found field None lt)) ∙ h
-
-  pub placed_more : (place : ℕ) → field < length found → field < length places → Ok place ≡ ok_or (get_or found field None) Missing → behind (take (field + 1) (set places field place)) (all_placed (drop (field + 1) found)) ≡ all_placed found
-  placed_more place lt room is =
-      let rest = all_placed (drop (field + 1) found) in
-      ap (λ xs. behind xs rest) (take_more_set places field place room) ∙ behind_more (take field places) place rest ∙ ap (λ o. behind (take field places) (place_then o rest)) (sym (some_ok (get_or found field None) place is)) ∙ here lt
-    where
-      some_ok : (o : Option ℕ) (p : ℕ) → Ok p ≡ ok_or o Missing → o ≡ Some p
-      some_ok None p e = absurd (let z : ◌≡◌ {A = ℕ} 0 1 = cc in omega arith)
-      some_ok (Some q) p e = cc
-
-  pub placed_stops : (e : Refusal) → field < length found → Err e ≡ ok_or (get_or found field None) Missing → Err Missing ≡ all_placed found
-  placed_stops e lt is = ap (λ o. behind (take field places) (place_then o (all_placed (drop (field + 1) found)))) (sym (none_err (get_or found field None) is)) ∙ here lt
-    where
-      none_err : (o : Option ℕ) → Err e ≡ ok_or o Missing → o ≡ None
-      none_err None k = refl
-      none_err (Some q) k = absurd (let z : ◌≡◌ {A = ℕ} 0 1 = cc in omega arith)
-
-  pub placed_all : length found ≤ field → length places ≤ field → Ok places ≡ all_placed found
-  placed_all past full = ap Ok (sym (append-nil places) ∙ ap (λ xs. xs ++ []) (sym (take_all field places full))) ∙ ap (behind (take field places)) (sym (at_drop_all all_placed found field past)) ∙ h
 
 -- the search for a name among what bears the names
 pub finds : {A : Type 0} (named : A → Bytes) (name : Bytes) (all : List A) (names : List Bytes) (r : Option ℕ) → MatchOption r (AllWithin (λ x. named x ≢ name) all 0 (length all)) (λ i. (i < length all) × HoldsAt (λ x. named x ≡ name) all i × AllWithin (λ x. named x ≢ name) all 0 i) → map named all ≡ names → Finds name names r

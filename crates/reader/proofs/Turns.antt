@@ -1,16 +1,12 @@
 -- The values of a line, one by one, and their sorting by field. Assumes nothing.
-use Rattle.std.proofs.Common.{◌≡◌, ℕ, zero, suc, ◌+◌, ◌<◌, ◌≤◌, true, leb, List, [], ◌∷◌, ◌++◌, length, get_or, take, set, Some, None, Ok, Err, Option, Result, sym, refl, ap, ◌∙◌, subst, add-zero, arith}
-use Rattle.std.proofs.lemmas.List.{append_assoc, append-nil, take_more_set, take_all, length-set}
+use Rattle.std.proofs.Common.{◌≡◌, ℕ, zero, suc, ◌+◌, ◌<◌, ◌≤◌, true, leb, List, [], ◌∷◌, ◌++◌, length, get_or, take, Ok, Err, Result, sym, refl, ap, ◌∙◌, arith}
 use Rattle.std.proofs.lemmas.Bool.{and_parts, and_from, leb-true, le-leb}
-use Rattle.std.specs.Option.{ok_or}
 use Rattle.refusal.specs.declared.Refusal.{Refusal}
-use Rattle.refusal.specs.declared.Refusal.TheVariants.{Form}
-use Rattle.refusal.specs.Refusals.{at_line, at_place, on_ok, on_err}
-use Rattle.text.specs.Texts.{Bytes, Parts}
-use Rattle.text.specs.Tokens.{this_line, later_lines, next_part, after_next}
-use Rattle.text.specs.Values.{value_of}
+use Rattle.refusal.specs.Refusals.{at_line, on_ok, on_err}
+use Rattle.text.specs.Texts.{Parts}
+use Rattle.text.specs.Tokens.{this_line, later_lines}
 use Rattle.reader.specs.Places.{all_within}
-use Rattle.reader.specs.Lines.{value_then, values_from, line_of, line_then, lines_from}
+use Rattle.reader.specs.Lines.{values_from, line_of, line_then, lines_from}
 
 -- values in front of those that are still to come
 abbrev pub behind : List ℕ → Result (List ℕ) Refusal → Result (List ℕ) Refusal
@@ -22,56 +18,6 @@ pub record Reading (entry lines : List Parts) (values : List ℕ) (place : ℕ) 
   pub room : place + length (this_line lines) ≡ length values
   pub read : behind (take place values) (values_from (place + 1) (this_line lines)) ≡ values_from 1 (this_line entry)
 
-pub behind_none : (r : Result (List ℕ) Refusal) → behind [] r ≡ r
-behind_none (Ok vs) = refl
-behind_none (Err e) = refl
-
-pub behind_more : (xs : List ℕ) (v : ℕ) (r : Result (List ℕ) Refusal) → behind (xs ++ (v ∷ [])) r ≡ behind xs (on_ok (λ vs. v ∷ vs) r)
-behind_more xs v (Ok vs) = ap Ok (append_assoc xs (v ∷ []) vs)
-behind_more xs v (Err e) = refl
-
-pub reading_none : (entry : List Parts) (values : List ℕ) → length (this_line entry) ≡ length values → Reading entry entry values 0
-reading_none entry values e = record { later = refl; room = omega arith; read = behind_none _ }
-
-apart : {p : Bytes} → Some p ≡ None → ⊥
-apart e = let z : ◌≡◌ {A = ℕ} 0 1 = cc in omega arith
-
-pub reading_more : (entry lines after : List Parts) (values : List ℕ) (p : Bytes) (place v : ℕ) → Reading entry lines values place → Some p ≡ next_part lines → after ≡ after_next lines → value_of p ≡ Some v → Reading entry after (set values place v) (place + 1)
-reading_more entry [] after values p place v h e a is = absurd (apart e)
-reading_more entry ([] ∷ ls) after values p place v h e a is = absurd (apart e)
-reading_more entry ((q ∷ ps) ∷ ls) after values p place v h e a is =
-    let pq : p ≡ q = cc in
-    let long : place < length values = omega (arith, h.room) in
-    let r = values_from (place + 1 + 1) ps in
-    subst (λ t. Reading entry t (set values place v) (place + 1)) (sym a)
-    (record {
-      later = h.later;
-      room = simp length-set (omega (arith, h.room));
-      read = ap (λ xs. behind xs r) (take_more_set values place v long) ∙ behind_more (take place values) v r ∙ ap (λ o. behind (take place values) (value_then o (place + 1) r)) (sym (ap value_of (sym pq) ∙ is)) ∙ h.read;
-    })
-
-pub reading_room : (entry lines : List Parts) (values : List ℕ) (p : Bytes) (place : ℕ) → Reading entry lines values place → Some p ≡ next_part lines → place < length values
-reading_room entry [] values p place h e = absurd (apart e)
-reading_room entry ([] ∷ ls) values p place h e = absurd (apart e)
-reading_room entry ((q ∷ ps) ∷ ls) values p place h e = omega (arith, h.room)
-
-pub reading_stops : (entry lines : List Parts) (values : List ℕ) (p : Bytes) (place : ℕ) → Reading entry lines values place → Some p ≡ next_part lines → value_of p ≡ None → Err (Form 0 (place + 1)) ≡ values_from 1 (this_line entry)
-reading_stops entry [] values p place h e is = absurd (apart e)
-reading_stops entry ([] ∷ ls) values p place h e is = absurd (apart e)
-reading_stops entry ((q ∷ ps) ∷ ls) values p place h e is =
-    let pq : p ≡ q = cc in
-    ap (λ o. behind (take place values) (value_then o (place + 1) (values_from (place + 1 + 1) ps))) (sym (ap value_of (sym pq) ∙ is)) ∙ h.read
-
-reading_end : (entry lines : List Parts) (values : List ℕ) (place : ℕ) → Reading entry lines values place → this_line lines ≡ [] → Ok values ≡ values_from 1 (this_line entry)
-reading_end entry lines values place h e =
-    let all : length values ≡ place = sym h.room ∙ ap (λ ps. place + length ps) e ∙ add-zero place in
-    ap Ok (sym (append-nil values) ∙ ap (λ xs. xs ++ []) (sym (take_all place values (omega arith)))) ∙ ap (λ ps. behind (take place values) (values_from (place + 1) ps)) (sym e) ∙ h.read
-
-pub reading_all : (entry lines : List Parts) (values : List ℕ) (place : ℕ) → Reading entry lines values place → None ≡ next_part lines → (Ok values ≡ values_from 1 (this_line entry)) × (after_next lines ≡ later_lines entry)
-reading_all entry [] values place h e = (reading_end entry [] values place h refl, h.later)
-reading_all entry ([] ∷ ls) values place h e = (reading_end entry ([] ∷ ls) values place h refl, h.later)
-reading_all entry ((q ∷ ps) ∷ ls) values place h e = absurd (apart (sym e))
-
 -- places that pass their test lie in the line, and the other way round
 pub within_at : (n : ℕ) (ps : List ℕ) (f : ℕ) → all_within n ps ≡ true → f < length ps → (1 ≤ get_or ps f 0) × (get_or ps f 0 ≤ n)
 within_at n [] f t lt = absurd (omega arith)
@@ -82,26 +28,14 @@ pub within_from : (n : ℕ) (ps : List ℕ) → ((f : ℕ) → f < length ps →
 within_from n [] h = refl
 within_from n (p ∷ ps) h = and_from _ _ (let w = h 0 (omega arith) in and_from _ _ (le-leb 1 p w.0) (le-leb p n w.1)) (within_from n ps (λ f lt. h (suc f) (omega arith)))
 
--- a part that is no number, told its place
-pub value_stops : (o : Option ℕ) (k : ℕ) (e : Refusal) → on_err (at_place k) (ok_or o (Form 0 0)) ≡ Err e → (o ≡ None) × (e ≡ Form 0 k)
-value_stops None k e h = (refl, cc)
-value_stops (Some v) k e h = absurd (let z : ◌≡◌ {A = ℕ} 0 1 = cc in omega arith)
-
 length_under : {X : Type 0} (k : ℕ) (x : X) (r : Result (List X) Refusal) → on_ok (λ ls. k + 1 + length ls) r ≡ on_ok (λ ls. k + length ls) (on_ok (λ ls. x ∷ ls) r)
 length_under k x (Ok ls) = ap Ok (omega arith)
 length_under k x (Err e) = refl
-
-length_start : {X : Type 0} (r : Result (List X) Refusal) → on_ok (λ ls. 0 + length ls) r ≡ on_ok length r
-length_start (Ok ls) = ap Ok (omega arith)
-length_start (Err e) = refl
 
 -- `line` lines of values are read and counted, and `lines` are ahead; `entry` was ahead behind the header
 pub record Checking (places : List ℕ) (entry lines : List Parts) (line : ℕ) : Type 0 where
   pub total : line + length lines ≡ length entry
   pub count : on_ok (λ ls. line + length ls) (lines_from places (line + 2) lines) ≡ on_ok length (lines_from places 2 entry)
-
-pub checking_none : (places : List ℕ) (entry : List Parts) → Checking places entry entry 0
-checking_none places entry = record { total = omega arith; count = length_start (lines_from places 2 entry) }
 
 line_here : (places : List ℕ) (entry lines : List Parts) (line : ℕ) → Checking places entry lines line → line < length entry → lines ≡ this_line lines ∷ later_lines lines
 line_here places entry [] line h lt = absurd (omega (arith, h.total))

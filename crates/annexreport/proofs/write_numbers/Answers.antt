@@ -1,12 +1,12 @@
 use Rattle.std.proofs.Common.{◌≡◌, ◌-◌, ◌<◌, [], ◌∷◌, map, length, get_or, decimal, sym, ap, ◌∙◌, subst, arith, rules}
 use Rattle.std.proofs.lemmas.List.{get_or-map, length-map, length_push}
-use Rattle.std.proofs.lemmas.Slice.Zip.{zip_turn, zip_end}
+use Rattle.std.proofs.lemmas.Slice.Zip.{zip_turn}
 use Rattle.text.specs.Texts.{line_text, text_of}
 use Rattle.fields.proofs.Admitting.{names_are}
-use Rattle.writer.proofs.Writing.{Going, going_none, going_more, going_all, wrote_as}
+use Rattle.writer.proofs.Writing.{Going, going_none, going_more, wrote_as}
 use Rattle.annex.specs.Numbers.{annex_names, fields_of}
 use Rattle.annexreport.specs.Report.{field_lines, numbers_text}
-use Rattle.annexreport.proofs.Printing.{fields_more, fields_all}
+use Rattle.annexreport.proofs.Printing.{fields_more}
 use Rattle.annexreport.proofs.write_numbers.Goals as goal
 
 pub loop-field-init : goal.loop-field-init
@@ -25,11 +25,3 @@ loop-field-preserved c =
     let number : c.in-Some.n.now ≡ get_or (fields_of n) k 0 = t.3 0 ∙ ap (λ l. get_or l k 0) c.from.ensures in
     let more = going_more c.loop-field.invariant (fields_more n k 21 below) (wrote_as (λ i. line_text (name i ∷ decimal (number i) ∷ [])) c.write_line.ensures) in
     subst (λ m. Going (numbers_text n) (text_of (field_lines n m (21 - m))) c.args.w.now c.write_line.new.w) (sym (length_push c.loop-field.yielded (c.in-Some.field, c.in-Some.n))) more
-
-pub returns : goal.returns
-returns c =
-    let fields = c.fields.result.now in
-    let named : map (λ f. f.name.now) fields ≡ annex_names = sym (names_are fields) ∙ c.fields.ensures.names in
-    let e = zip_end fields c.from.result c.loop-field.yielded c.into_iter-field-iterator.result c.loop-field.field-iterator c.next.new.self c.next.result (search rules) (search rules) c.loop-field.yielded_by c.in-None.is c.next.ensures.steps in
-    let long : length c.from.result ≡ 21 = search rules in
-    going_all c.loop-field.invariant (fields_all c.args.numbers.now (length c.loop-field.yielded) 21 (omega (arith, e, long, length-map fields (λ f. f.name.now), ap length named)))

@@ -1,11 +1,5 @@
-use Rattle.std.proofs.Common.{ap}
-use Rattle.refusal.specs.Refusals.{on_ok}
 use Rattle.national.proofs.Accepting.{accepted_keeps}
 use Rattle.national.proofs.annexes.NationalAnnex.set.Goals as goal
 
 pub invariant_of-self : goal.invariant_of-self
 invariant_of-self c = let kept = accepted_keeps c.args.fields.now c.in_ok-self.field-0 c.in_ok-self.ensures in record { ranged = kept.1; rising = kept.2 }
-
-pub returns : goal.returns
-returns c =
-    record { answers = ap (on_ok (λ _. tt)) c.in_ok-self.ensures; leaves = (accepted_keeps c.args.fields.now c.in_ok-self.field-0 c.in_ok-self.ensures).0 }
