@@ -24,10 +24,12 @@ straight Straight = true
 straight Bent = false
 straight Loop = false
 
+-- more than one layer
 abbrev pub several : Layers → Bool
 several One = false
 several Several = true
 
+-- links or U bars
 abbrev pub linked : Ties → Bool
 linked Links = true
 linked Other = false
