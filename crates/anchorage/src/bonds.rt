@@ -2,11 +2,8 @@
 ghost use Rattle.std.specs.Prelude.{◌≡◌};
 ghost use Rattle.anchorage.specs.Bonds.{bond_number, bond_numbered};
 
-use std::error::Error;
-use std::fmt;
-
 // By where the bar lies as the concrete is cast.
-#[derive(Clone, Copy, PartialEq, Eq)]
+#[derive(Clone, Copy, Debug, PartialEq, Eq)]
 pub enum Bond {
     Good,
     Other,
@@ -43,11 +40,3 @@ impl From<Bond> for u32 {
         }
     }
 }
-
-impl fmt::Display for UnknownBond {
-    fn fmt<W: fmt::Write>(&self, f: &mut fmt::Formatter<W>) -> fmt::Result {
-        write!(f, "no bond has the number {}", self.number)
-    }
-}
-
-impl Error for UnknownBond {}

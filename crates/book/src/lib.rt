@@ -4,12 +4,12 @@
 
 pub mod books;
 pub mod faults;
-pub mod fields;
 #[cfg(test)]
 mod tests;
+pub mod verdicts;
 pub mod written;
 
 pub use books::{Book, judge};
 pub use faults::LineFault;
-pub use fields::verdict;
+pub use verdicts::verdict;
 pub use written::WrittenBook;

@@ -1,5 +1,6 @@
 -- The numbers of the design situations. Assumes nothing.
-use Rattle.std.specs.Prelude.{◌≡◌, ℕ, cond, Some, None, Option, Result, MatchResult, ◌==◌}
+use Rattle.std.specs.Prelude.{ℕ, cond, Some, None, Option, Result, ◌==◌}
+use Rattle.std.specs.Option.{ok_or}
 use Rattle.eurocode.specs.declared.Situation.{Situation}
 use Rattle.eurocode.specs.declared.Situation.TheVariants.{Persistent, Accidental}
 use Rattle.eurocode.specs.declared.situations.UnknownSituation.{UnknownSituation}
@@ -13,6 +14,6 @@ abbrev pub number_of : Situation → ℕ
 number_of Persistent = 1
 number_of Accidental = 2
 
--- a number read as a situation: the one that bears it, or the number itself where none does
-abbrev pub Numbers : ℕ → Result Situation UnknownSituation → Type 0
-Numbers n r = MatchResult r (λ s. situation_of n ≡ Some s) (λ e. (situation_of n ≡ None) × (e.0 ≡ n))
+-- the situation of a number; any other number is handed back
+abbrev pub situation_numbered : ℕ → Result Situation UnknownSituation
+situation_numbered n = ok_or (situation_of n) (record { number = n })

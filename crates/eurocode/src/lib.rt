@@ -27,7 +27,7 @@ pub struct Strength {
 }
 
 // A design situation.
-#[derive(Clone, Copy, PartialEq, Eq)]
+#[derive(Clone, Copy, Debug, PartialEq, Eq)]
 pub enum Situation {
     Persistent,
     Accidental,

@@ -1,24 +1,26 @@
 // The numbers of the design situations.
 ghost use Rattle.std.specs.Prelude.{◌≡◌, Some};
-ghost use Rattle.eurocode.specs.Situations.{number_of, situation_of, Numbers};
+ghost use Rattle.eurocode.specs.Situations.{number_of, situation_of, situation_numbered};
 
 use crate::Situation;
 
 // A number that no design situation bears.
 #[derive(Clone, Copy, Debug, PartialEq, Eq)]
-pub struct UnknownSituation(pub u32);
+pub struct UnknownSituation {
+    pub number: u32,
+}
 
 // 1 is persistent, 2 accidental.
 impl TryFrom<u32> for Situation {
     type Error = UnknownSituation;
 
-    ghost try_from_gives = { Numbers };
+    ghost try_from_gives = { λ number situation. situation ≡ situation_numbered number };
 
     fn try_from(number: u32) -> Result<Situation, UnknownSituation> {
         match number {
             1 => Ok(Situation::Persistent),
             2 => Ok(Situation::Accidental),
-            _ => Err(UnknownSituation(number)),
+            _ => Err(UnknownSituation { number }),
         }
     }
 }
