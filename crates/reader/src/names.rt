@@ -7,6 +7,7 @@ ghost use Rattle.reader.specs.Names.{WellNamed};
 pub trait Named<const N: usize> {
     ghost names: { Self → List Bytes };
 
+    // A slice, since an array of references may not have a parameter's length yet; it is N long by law.
     fn names(&self) -> &'static [&'static [u8]]
         ensures { map (λ name. name.now) result.now ≡ names self.now };
 
