@@ -18,6 +18,7 @@ pub struct Header<const N: usize> {
     ghost placed: { all_within N places ≡ true },
 }
 
+// By hand, since no derive takes a ghost field of a generic struct.
 impl<const N: usize> Clone for Header<N> {
     fn clone(&self) -> Result<Header<N>, AllocError> {
         Ok(*self)

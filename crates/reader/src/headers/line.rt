@@ -9,7 +9,7 @@ use crate::headers::Header;
 use refusal::{Located, Refusal};
 use text::{Lexer, value};
 
-// Reads N values.
+// Reads N values. The lexer ends the line, so the places are counted beside it.
 fn read_values<const N: usize>(lexer: &mut Lexer) -> Result<[u32; N], Refusal>
     requires few { N ≤ 30 }
     ensures values { result ≡ values_of N (this_line (ahead lexer.old)) }
@@ -27,7 +27,8 @@ fn read_values<const N: usize>(lexer: &mut Lexer) -> Result<[u32; N], Refusal>
     Ok(values)
 }
 
-// Values by field, given the place of each field.
+// Values by field, given the place of each field. By index, since nothing is known of what is written through an adapter of
+// `iter_mut`.
 fn sort_by_field<const N: usize>(places: &[u32; N], values: &[u32; N]) -> [u32; N]
     requires within { all_within N places.now ≡ true }
     ensures { result ≡ by_field places.now values.now }

@@ -17,7 +17,7 @@ fn find<const N: usize, T: Named<N>>(named: &T, name: &[u8]) -> Option<usize>
     named.fields().iter().position(|field| field.name == name)
 }
 
-// The place of each field, if each has one.
+// The place of each field, if each has one. By index, as in `sort_by_field`.
 fn all_placed<const N: usize>(found: &[Option<u32>; N]) -> Result<[u32; N], Refusal>
     ensures { result ≡ all_placed found.now }
 {
