@@ -1,10 +1,10 @@
 -- What an annex accepts. Assumes nothing.
-use Rattle.std.proofs.Common.{◌≡◌, ℕ, ◌+◌, ◌-◌, ◌<◌, ◌≤◌, Bool, true, false, not, ◌⊎◌, ⊎_elim, List, length, get_or, drop, min, is_some, Some, None, Ok, Option, MatchOption, sym, refl, ap, ◌∙◌, subst, arith, MatchResult, [], ◌∷◌}
+use Rattle.std.proofs.Common.{◌≡◌, ℕ, ◌+◌, ◌-◌, ◌<◌, ◌≤◌, Bool, true, false, not, ⊎_elim, List, length, get_or, drop, min, is_some, Some, None, Ok, Option, MatchOption, sym, refl, ap, ◌∙◌, subst, arith, MatchResult, []}
 use Rattle.std.specs.List.{AllWithin, HoldsAt, zip}
 use Rattle.std.specs.Option.{option_map}
 use Rattle.std.proofs.lemmas.List.{get_or-drop, get_or-map, length-drop}
 use Rattle.std.proofs.lemmas.Slice.Zip.{length-zip, get_or-zip}
-use Rattle.std.proofs.lemmas.Bool.{and_parts, and_from, and_left, and_right, le-leb, lt-leb, eq-eqb, both_ways, cases_order}
+use Rattle.std.proofs.lemmas.Bool.{and_parts, and_from, le-leb, lt-leb, eq-eqb, both_ways, cases_order}
 use Rattle.refusal.specs.declared.Refusal.TheVariants.{AnnexRange, Falling}
 use Rattle.annex.specs.declared.numbers.Numbers.{Numbers}
 use Rattle.annex.specs.Numbers.{annex_names, ranges, fields_of, numbers_of}

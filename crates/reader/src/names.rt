@@ -11,6 +11,7 @@ use fields::Field;
 pub trait Named<const N: usize> {
     ghost names: { Self → List Bytes };
 
+    // N of them by law: an array that holds references may not have a parameter for its length yet.
     fn fields(&self) -> &'static [Field]
         ensures { names_of (fields_of result.now) ≡ names self.now };
 
