@@ -1,10 +1,11 @@
 #!/bin/sh
 # Counts the places of each point of docs/DESIGN-PASS.md in the code; with the number of a point, lists them.
 cd "$(dirname "$0")/.." || exit 1
-in_src() { grep -rnE "$1" crates --include='*.rt'; }
+code() { git ls-files 'crates/*/src/*.rt' 'crates/*/src/**/*.rt' | sort -u; }
+in_src() { code | xargs grep -nE "$1"; }
 
 # Numbers that a comment explains as kinds or as "none", and booleans beside a value.
-codes() { grep -rnE -A1 '// .*(\b[01] [a-z ]+, [12] |\b[01] for |\b0 (or|for|where|past|outside|means)\b|counts as 0)' crates --include='*.rt' | grep -E '^[^ ]+-[0-9]+-.*(: u(8|32|64)|: usize|-> \(?u)'; }
+codes() { code | xargs grep -nE -A1 '// .*(\b[01] [a-z ]+, [12] |\b[01] for |\b0 (or|for|where|past|outside|means)\b|counts as 0)' | grep -E '^[^ ]+-[0-9]+-.*(: u(8|32|64)|: usize|-> \(?u)'; }
 flags() { in_src '[a-z_]+: bool\b'; }
 # A match that does what a method of Option or Result does.
 hand_matches() { in_src '^ *(Some|Ok|Err|None)(\([a-z]+\))? => (Some|Ok|Err|None|0|true|false|[a-z_]+)[^{]*,$' | grep -E 'None => (None|0|true|false)|(Ok|Err)\(([a-z]+)\) => (Ok|Err)\('; }
@@ -31,7 +32,7 @@ buffers() { in_src '\[(u8|u32|bool|0|None)[^];]*; *[A-Z0-9_]+\]|^ *(pub )?const 
 numbered() { in_src 'fn [a-z]+[0-9]+\('; in_src 'match field \{'; }
 
 # Answers and lemmas.
-proofs() { find crates -path '*/proofs/*' -name '*.antt' | xargs cat | wc -l; find crates -name 'Answers.antt' | wc -l; }
+proofs() { git ls-files 'crates/*/proofs/*.antt' | xargs cat | wc -l; git ls-files 'crates/*/Answers.antt' | wc -l; }
 
 line() { printf '%-58s %s\n' "$1" "$($2 | wc -l)"; }
 case "$1" in
