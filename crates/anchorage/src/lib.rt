@@ -30,7 +30,8 @@ pub enum Ties {
     Other,
 }
 
-// Which of the standard's cases a bar is.
+// Which of the standard's cases a bar is. Three of them are yes or no, as the formulas ask them: an enum of two names for
+// each would be turned into that answer at every use.
 #[derive(Clone, Copy)]
 pub struct Detail {
     // A lap, else an anchorage.

@@ -29,7 +29,7 @@ impl Factor {
 }
 
 // γc and γs are factors of concrete and of steel; αct, αcc, km and ks are in hundredths, k1 in tenths, k2 in mm. The
-// multiples stand beside the tabled diameters.
+// multiples stand beside the tabled diameters, in fixed memory: a map would need the heap.
 #[derive(Clone, Copy)]
 pub struct Numbers {
     pub gc: Factor,

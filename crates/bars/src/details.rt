@@ -13,6 +13,7 @@ use annex::Annex;
 use eurocode::{Diameter, Situation, Strength, TabledSize};
 
 // The test of a line admits 1, straight, 2, a bend or hook, and 3, a loop.
+// Any number has a kind here and in the next three: rules and formulas are stated of every line, admitted or not.
 fn shape_of(number: u32) -> Shape
     ensures { result ≡ shape_of number }
 {

@@ -1,6 +1,7 @@
 // A bar line.
 
-// Lengths are in mm, areas in tenths of mm², stresses in tenths of MPa, strengths in MPa.
+// Lengths are in mm, areas in tenths of mm², stresses in tenths of MPa, strengths in MPa. Kinds are numbers and not enums:
+// a line holds what was written, every list of 23 numbers is a line, and only its test says which of them are admitted.
 #[derive(Clone, Copy)]
 pub struct BarLine {
     // 1 anchorage in tension, 2 in compression, 3 lap in tension, 4 in compression.

@@ -22,11 +22,11 @@ pub trait Book {
     fn meets(&self, situation: Situation, rule: u8, line: &Self::Line) -> bool
         ensures { result ≡ meets_of (meaning self.now) situation rule line.now };
 
-    // The figure of a line, in the book's unit; 0 for one that fails its test.
+    // The figure of a line, in the book's unit; 0 for one that fails its test. A plain number, as a row holds it.
     fn figure(&self, situation: Situation, line: &Self::Line) -> u32
         ensures { result ≡ figure_of (meaning self.now) situation line.now };
 
-    // 0 or the earliest broken rule. A book may answer by faster code of its own.
+    // 0 or the earliest broken rule: a plain number, as a row holds it. A book may answer by faster code of its own.
     fn mark(&self, situation: Situation, line: &Self::Line) -> u8
         ensures { result ≡ mark_of (meaning self.now) situation line.now }
     {

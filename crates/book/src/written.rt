@@ -16,7 +16,7 @@ pub trait WrittenBook<const N: usize>: Book + Named<N> {
     fn line_of(&self, fields: &[u32; N]) -> Self::Line
         ensures { numbers self.now result ≡ fields.now };
 
-    // The number of a field, counted from 0; 0 past the last.
+    // The number of a field, counted from 0; 0 past the last, so that no question of a book is refused.
     fn number(&self, line: &Self::Line, field: usize) -> u32
         ensures { result ≡ slice_index (numbers self.now line.now) field }
     {

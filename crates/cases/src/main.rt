@@ -8,8 +8,6 @@
 
 #![tactic(auto)]
 
-ghost use Rattle.std.specs.Prelude.{◌<◌, length};
-
 use annex::Annex;
 use eurocode::{Diameter, Situation, TabledSize};
 use national::{AnnexFields, NationalAnnex};
@@ -27,10 +25,8 @@ const VALUES: &[u8] = b"150;120;115;100;100;100;10;5;4;75;4;4;4;4;4;4;7;7;7;7;7\
 const ZEROS: &[u8] = b"0;0;0;0;0;0;0;0;0;0;0;0;0;0;0;0;0;0;0;0;0\n";
 
 // Adds a text over and over, until there are so many bytes.
-fn fill(text: &mut Vec<u8>, more: &[u8], bytes: usize) -> Result<(), AllocError>
-    requires { 0 < length more.now }
-{
-    while text.len() < bytes {
+fn fill(text: &mut Vec<u8>, more: &[u8], bytes: usize) -> Result<(), AllocError> {
+    while text.len() < bytes && !more.is_empty() {
         text.extend_from_slice(more)?;
     }
     Ok(())

@@ -3,6 +3,8 @@ ghost use Rattle.std.specs.Prelude.{◌≡◌, ℕ, List, length, if◌then◌el
 ghost use Rattle.std.specs.Option.{option_map};
 ghost use Rattle.eurocode.specs.Tables.{tabled};
 
+// One table for each column, and not one of rows: of each the order is proved once, over all of its pairs.
+
 // Bars, in mm.
 pub const DIAMETERS: [u32; 11] = [6, 8, 10, 12, 14, 16, 20, 25, 28, 32, 40];
 

@@ -5,7 +5,8 @@
 ghost use Rattle.std.specs.Prelude.{◌≡◌, ℕ};
 ghost use Rattle.refusal.specs.Refusals.{numbers_of, at_line, at_place, on_err};
 
-// A text line counts from 1, the names being line 1, and is 0 outside a text; places and fields count from 1.
+// A text line counts from 1, the names being line 1, and is 0 outside a text, which is how it is told; places and fields
+// count from 1.
 #[derive(Clone, Copy, Debug, PartialEq, Eq)]
 pub enum Refusal {
     // The rows for a sheet are none, or more than 256.

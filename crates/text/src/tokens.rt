@@ -44,6 +44,7 @@ pub struct Lexer<'t> {
     // The lines that have not begun yet.
     rest: &'t [u8],
     position: Position<'t>,
+    // Whether the first line is not yet passed; beside the position, since a lexer can stand anywhere in either part.
     in_names: bool,
 }
 

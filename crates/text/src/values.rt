@@ -23,7 +23,7 @@ fn digits(first: u32, rest: &[u8]) -> Result<u32, Refusal>
         if !b.is_ascii_digit() {
             return Err(NO_NUMBER);
         }
-        number = number * 10 + (*b - b'0') as u32;
+        number = number * 10 + u32::from(*b - b'0');
     }
     Ok(number)
 }
@@ -36,7 +36,7 @@ pub fn value(part: &[u8]) -> Result<u32, Refusal>
     match part {
         [b'0'] => Ok(0),
         [first @ b'1'..=b'9', rest @ ..] if rest.len() <= MOST_BEHIND_FIRST => digits(
-            (*first - b'0') as u32,
+            u32::from(*first - b'0'),
             rest,
         ),
         _ => Err(NO_NUMBER),

@@ -56,7 +56,8 @@ impl Written for u32 {
     }
 }
 
-// `at` is the place of the next byte; at or past the buffer's end nothing more is written.
+// `at` is the place of the next byte; at or past the buffer's end nothing more is written. The memory is the caller's. A
+// writer that kept only the rest of it, as std does, could not say what stands before.
 #[derive(Drop)]
 pub struct Writer<'b> {
     buffer: &'b mut [u8],

@@ -9,7 +9,7 @@ use crate::headers::Header;
 use refusal::{Located, Refusal};
 use text::{Lexer, value};
 
-// Reads N values. The lexer ends the line, so the places are counted beside it.
+// Reads N values. The places are counted beside the lexer, as those of the names are.
 fn read_values<const N: usize>(lexer: &mut Lexer) -> Result<[u32; N], Refusal>
     requires few { N ≤ 30 }
     ensures values { result ≡ values_of N (this_line (ahead lexer.old)) }

@@ -28,7 +28,8 @@ fn all_placed<const N: usize>(found: &[Option<u32>; N]) -> Result<[u32; N], Refu
     Ok(places)
 }
 
-// Passes the first line, and finds for each field the place at which its name stands.
+// Passes the first line, and finds for each field the place at which its name stands. The places are counted beside the
+// lexer, which ends the line: an iterator over its parts would have to hold it, and pass the line's end unseen.
 fn place_names<const N: usize, T: Named<N>>(
     named: &T,
     lexer: &mut Lexer,

@@ -1,4 +1,4 @@
-use Rattle.std.proofs.Common.{sym, ap, ◌∙◌, arith}
+use Rattle.std.proofs.Common.{◌+◌, ◌*◌, drop, sym, ap, ◌∙◌, arith}
 use Rattle.std.proofs.lemmas.List.{at_drop_all}
 use Rattle.std.specs.Option.{ok_or}
 use Rattle.refusal.specs.declared.Refusal.TheVariants.{Form}
@@ -17,10 +17,12 @@ pub overflow_add-number : goal.overflow_add-number
 overflow_add-number c = omega (arith, fits _ _ c.loop-b.invariant.1 (omega arith), c.if-not-is_ascii_digit.ensures.cases)
 
 pub loop-b-preserved : goal.loop-b-preserved
-loop-b-preserved c = (
-  digit_more _ _ _ c.loop-b-test.true c.if-not-is_ascii_digit.ensures.value ∙ c.loop-b.invariant.0,
-  bound_more _ _ _ c.loop-b.invariant.1 (omega (arith, c.if-not-is_ascii_digit.ensures.cases)),
-)
+loop-b-preserved c =
+    let rest = drop (c.loop-b.b-index + 1) c.args.rest.now in
+    let digit = c.from.ensures in (
+      ap (λ d. digits_from (c.loop-b.number * 10 + d) rest) digit ∙ digit_more _ _ _ c.loop-b-test.true c.if-not-is_ascii_digit.ensures.value ∙ c.loop-b.invariant.0,
+      bound_more _ _ _ c.loop-b.invariant.1 (omega (arith, digit, c.if-not-is_ascii_digit.ensures.cases)),
+    )
 
 pub returns : goal.returns
 returns c = ap (λ o. ok_or o (Form 0 0)) (sym (at_drop_all (digits_from c.loop-b.number) _ _ c.loop-b-test.false) ∙ c.loop-b.invariant.0)
