@@ -60,7 +60,7 @@ told_none test i n all = go (first_failed test i n) (first_law test i n)
     go (Some f) first = absurd (both_ways (test (f - 1)) first.fails (all (f - 1) (omega (arith, first.from)) (omega (arith, first.from, first.upto))))
 
 -- the first failure in a list, which holds the tests from i on
-first_in_list : (test : ℕ → Bool) (i : ℕ) (ts : List Bool) → ((k : ℕ) → k < length ts → test (i + k) ≡ slice_index_or ts k true) → option_map (λ k. k + 1) (position_from (λ t. not t) i ts) ≡ first_failed test i (length ts)
+pub first_in_list : (test : ℕ → Bool) (i : ℕ) (ts : List Bool) → ((k : ℕ) → k < length ts → test (i + k) ≡ slice_index_or ts k true) → option_map (λ k. k + 1) (position_from (λ t. not t) i ts) ≡ first_failed test i (length ts)
 first_in_list test i [] h = refl
 first_in_list test i (t ∷ ts) h =
     go (first_in_list test (i + 1) ts (λ k l. let e : i + 1 + k ≡ i + suc k = omega arith in ap test e ∙ h (suc k) (omega (arith, l)))) t here

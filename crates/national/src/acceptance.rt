@@ -1,5 +1,6 @@
 // The test of an annex's numbers.
-ghost use Rattle.std.specs.Prelude.{◌≡◌};
+ghost use Rattle.std.specs.Prelude.{◌≡◌, ◌<◌, length, nat_lt, position, IfSome};
+ghost use Rattle.std.specs.List.{zip};
 ghost use Rattle.annex.specs.Numbers.{numbers_of};
 ghost use Rattle.annex.specs.Laws.{first_out, first_fall};
 ghost use Rattle.national.specs.Acceptance.{accepted_of};
@@ -39,9 +40,18 @@ fn first_out(fields: &[u32; NUMBERS]) -> Option<u32>
 fn first_fall(fields: &[u32; NUMBERS]) -> Option<u32>
     ensures { result ≡ first_fall fields.now }
 {
-    let place = fields[FIRST_MULTIPLE..]
+    place_of_fall(&fields[FIRST_MULTIPLE..], &fields[SECOND_MULTIPLE..]).map(
+        |place| (SECOND_MULTIPLE + place) as u32 + 1,
+    )
+}
+
+// The first place, from 0, at which a multiple is smaller than the one before it.
+fn place_of_fall(before: &[u32], multiples: &[u32]) -> Option<usize>
+    ensures value { result ≡ position (λ p. nat_lt p.1 p.0) (zip before.now multiples.now) }
+    ensures within { IfSome result (λ place. place < length multiples.now) }
+{
+    before
         .iter()
-        .zip(&fields[SECOND_MULTIPLE..])
-        .position(|(before, n)| n < before)?;
-    Some((SECOND_MULTIPLE + place) as u32 + 1)
+        .zip(multiples)
+        .position(|(before, n)| n < before)
 }
