@@ -6,5 +6,5 @@
 pub mod numbers;
 pub mod questions;
 
-pub use numbers::{Factor, NUMBERS, Numbers, RECOMMENDED};
+pub use numbers::{Factor, MULTIPLES, NUMBERS, Numbers, RECOMMENDED};
 pub use questions::{Annex, Recommended};

@@ -7,8 +7,8 @@ use eurocode::Situation;
 // How many numbers an annex has.
 pub const NUMBERS: usize = 21;
 
-// How many of them are multiples, one for each tabled diameter.
-const MULTIPLES: usize = 11;
+// How many of them are multiples, one for each tabled diameter: the last ones.
+pub const MULTIPLES: usize = 11;
 
 // A partial factor in each design situation, in hundredths.
 #[derive(Clone, Copy)]

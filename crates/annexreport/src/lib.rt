@@ -25,10 +25,8 @@ pub fn report(text: &[u8], buffer: &mut [u8]) -> usize
     ensures short { length (report_of (annex_of text.now)) ≤ 400 }
 {
     let mut annex = NationalAnnex::new();
-    match annex.read(text) {
-        Ok(()) => write_report(Ok(*annex.numbers()), buffer),
-        Err(refusal) => write_report(Err(refusal), buffer),
-    }
+    let outcome = annex.read(text).map(|()| *annex.numbers());
+    write_report(outcome, buffer)
 }
 
 // Lays the report of an outcome over the buffer's start.

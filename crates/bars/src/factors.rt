@@ -19,7 +19,7 @@ fn clamped(n: u64, d: u64) -> u64
     div_up(1_000_000 * d.saturating_sub(n), d).max(700_000)
 }
 
-// What a has beyond b: their signed difference, clamped at 0.
+// What a has beyond b: their signed difference, as the formula has it, clamped at 0 before anything is rounded.
 fn surplus(a: u64, b: u64) -> u64
     requires left { a ≤ 10 ^ 13 }
     requires right { b ≤ 10 ^ 13 }

@@ -76,7 +76,7 @@ const BAR_FIELDS: &[Field] = &[
         name: b"member",
         values: Values::Between(1, 2),
     },
-    // None, or a tabled diameter.
+    // None, or a tabled diameter: no constant joins 0 and a table.
     Field {
         name: b"weld",
         values: Values::OneOf(&[0, 6, 8, 10, 12, 14, 16, 20, 25, 28, 32, 40]),

@@ -30,6 +30,7 @@ pub trait Book {
     fn mark(&self, situation: Situation, line: &Self::Line) -> u8
         ensures { result ≡ mark_of (meaning self.now) situation line.now }
     {
+        // `find` would say it, but what it finds along a range is not proved yet.
         for rule in 1..=self.rules() {
             if !self.meets(situation, rule, line) {
                 return rule;

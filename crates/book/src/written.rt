@@ -4,7 +4,7 @@ ghost use Rattle.std.specs.Option.{option_map};
 ghost use Rattle.book.specs.Written.{Lists};
 
 use crate::books::Book;
-use reader::Named;
+use reader::{Named, number_at};
 
 // A book whose N fields have names. A line is the list of its numbers, one for each name, in the order of the names.
 pub trait WrittenBook<const N: usize>: Book + Named<N> {
@@ -20,7 +20,7 @@ pub trait WrittenBook<const N: usize>: Book + Named<N> {
     fn number(&self, line: &Self::Line, field: usize) -> u32
         ensures { result ≡ slice_index (numbers self.now line.now) field }
     {
-        self.numbers(line).get(field).copied().unwrap_or(0)
+        number_at(&self.numbers(line), field)
     }
 
     // The line of these numbers, if they are as many as the names.

@@ -48,15 +48,12 @@ fn expand(text: &mut Vec<u8>, letter: u8) -> Result<(), AllocError> {
 // The text that a line stands for.
 fn text_of(heap: Global, line: &[u8]) -> Result<Vec<u8>, AllocError> {
     let mut text = Vec::new(heap);
-    let mut escaped = false;
-    for b in line {
-        if escaped {
-            expand(&mut text, *b)?;
-            escaped = false;
-        } else if *b == b'\\' {
-            escaped = true;
-        } else {
+    let mut bytes = line.iter();
+    while let Some(b) = bytes.next() {
+        if *b != b'\\' {
             text.extend_from_slice(&[*b])?;
+        } else if let Some(letter) = bytes.next() {
+            expand(&mut text, *letter)?;
         }
     }
     Ok(text)

@@ -12,7 +12,9 @@ mod tables;
 pub use situations::UnknownSituation;
 pub use tables::{DIAMETERS, STRENGTHS, TabledSize};
 
-// A bar's diameter, by its row in the table, so that every value is a tabled one.
+// A bar's diameter, by its row in the table, so that every value is a tabled one. It and the strength are two types, and not
+// one with the table for a parameter: no derive takes a ghost field of a generic struct, and what a definition says of a
+// diameter would have to name the table's members too.
 #[derive(Clone, Copy)]
 pub struct Diameter {
     row: usize,

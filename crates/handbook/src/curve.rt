@@ -12,7 +12,7 @@ use std::io;
 // How far apart the points are, in tenths of MPa.
 pub const STEP: usize = 100;
 
-// The length at a stress; 0 where there is none.
+// The length at a stress; 0 where there is none, as it is printed.
 pub(crate) fn point(entry: Entry, stress: u32) -> u32
     ensures { result ≡ or_zero (point_of Anchorage (mm_of entry.diameter) (fck_of entry.strength) entry.bond stress) }
 {

@@ -82,6 +82,7 @@ fn print_stresses(rt: &HostRuntime) -> io::Result<()> {
 // Lines across the frame at each mark of the length.
 fn print_lengths(rt: &HostRuntime, mark: u32, marks: u32) -> io::Result<()> {
     let most = mark.saturating_mul(marks);
+    // The mark's number is what is multiplied.
     for i in 0..=marks {
         let length = mark.saturating_mul(i);
         let y = down(length, most);

@@ -103,21 +103,6 @@ read_granted text before after r is h = subst (Promise text after) (sym is) (by 
     by (Ok n) l g = (g.0, g.1, l ∙ g.2)
     by (Err e) l g = g
 
--- a text that was granted, and one that was not, by what the annex then means
-pub granted_means : (text : Bytes) (before after : NationalAnnex) → ◌≡◌ {A = Result (Unit {0}) Refusal} (Ok tt) (on_ok (λ _. tt) (annex_of text)) → Leaves (annex_of text) before after → Ok (means_of after) ≡ annex_of text
-granted_means text before after = by (annex_of text)
-  where
-    by : (o : Result Numbers Refusal) → ◌≡◌ {A = Result (Unit {0}) Refusal} (Ok tt) (on_ok (λ _. tt) o) → Leaves o before after → Ok (means_of after) ≡ o
-    by (Ok n) e l = ap Ok l
-    by (Err d) e l = absurd (err_ok (sym e))
-
-pub refused_for : (text : Bytes) (e : Refusal) → ◌≡◌ {A = Result (Unit {0}) Refusal} (Err e) (on_ok (λ _. tt) (annex_of text)) → Err e ≡ annex_of text
-refused_for text e = by (annex_of text)
-  where
-    by : (o : Result Numbers Refusal) → ◌≡◌ {A = Result (Unit {0}) Refusal} (Err e) (on_ok (λ _. tt) o) → Err e ≡ o
-    by (Ok n) h = absurd (err_ok h)
-    by (Err d) h = let same : e ≡ d = cc in ap Err same
-
 -- which number is told of those that are said
 accepted_first : (ns : List ℕ) (e : Refusal) → accepted_of ns ≡ Err e → BreaksFirst ns e
 unfolding first_out first_fall

@@ -6,15 +6,15 @@ ghost use Rattle.annex.specs.Laws.{first_out, first_fall};
 ghost use Rattle.national.specs.Acceptance.{accepted_of};
 
 use crate::names::AnnexFields;
-use annex::{NUMBERS, Numbers};
+use annex::{MULTIPLES, NUMBERS, Numbers};
 use reader::Named;
 use refusal::Refusal;
 
 // The place of the first multiple.
-const FIRST_MULTIPLE: usize = 10;
+const FIRST_MULTIPLE: usize = NUMBERS - MULTIPLES;
 
 // The place of the first multiple that has one before it.
-const SECOND_MULTIPLE: usize = 11;
+const SECOND_MULTIPLE: usize = FIRST_MULTIPLE + 1;
 
 // The numbers that these fields list, or why no annex has such numbers.
 pub(crate) fn accepted(fields: &[u32; NUMBERS]) -> Result<Numbers, Refusal>

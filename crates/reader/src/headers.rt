@@ -1,6 +1,6 @@
 // What was learnt from a text's first line. The calls are in modules below, since a struct's invariant may not cite what is
 // defined of that struct.
-ghost use Rattle.std.specs.Prelude.{◌≡◌, ◌≤◌, true};
+ghost use Rattle.std.specs.Prelude.{◌≡◌, ◌≤◌, true, ⊤};
 ghost use Rattle.reader.specs.Places.{all_within};
 
 use std::alloc::AllocError;
@@ -20,6 +20,10 @@ pub struct Header<const N: usize> {
 
 // By hand, since no derive takes a ghost field of a generic struct.
 impl<const N: usize> Clone for Header<N> {
+    ghost is_clone = { λ header copy. copy ≡ header };
+
+    ghost is_infallible = { λ _. ⊤ };
+
     fn clone(&self) -> Result<Header<N>, AllocError> {
         Ok(*self)
     }

@@ -71,7 +71,7 @@ impl Refusal {
         }
     }
 
-    // The same refusal, met in this text line.
+    // The same refusal, met in this text line. Not one function with the next: they tell different refusals something.
     pub fn at_line(self, line: u32) -> Refusal
         ensures { result ≡ at_line line self }
     {

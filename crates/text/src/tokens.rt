@@ -148,6 +148,7 @@ impl<'t> Lexer<'t> {
         ensures { result ≡ (length (this_line (ahead self.now)) == count) }
     {
         let mut lexer = *self;
+        // So many times, without an index.
         for _ in 0..count {
             if lexer.next_part().is_none() {
                 return false;

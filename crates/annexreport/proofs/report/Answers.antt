@@ -1,31 +1,32 @@
-use Rattle.std.proofs.Common.{◌≡◌, ℕ, ◌≤◌, min, List, length, Ok, Result, sym, ap, ◌∙◌, subst}
+use Rattle.std.proofs.Common.{◌≡◌, ◌≤◌, min, length, Ok, Err, Result, refl, sym, ap, ◌∙◌, subst, rules}
 use Rattle.refusal.specs.declared.Refusal.{Refusal}
+use Rattle.refusal.specs.Refusals.{on_ok}
 use Rattle.writer.specs.Wrote.{laid_over}
 use Rattle.annex.specs.declared.numbers.Numbers.{Numbers}
-use Rattle.annex.specs.Laws.{Ranged}
 use Rattle.annex.specs.Numbers.{fields_of}
-use Rattle.national.specs.Reading.{annex_of}
-use Rattle.national.proofs.Granting.{granted_means, refused_for}
 use Rattle.annex.specs.Keeping.{ranged_decides}
-use Rattle.annexreport.specs.Report.{report_of}
+use Rattle.national.specs.declared.annexes.NationalAnnex.{NationalAnnex}
+use Rattle.national.specs.Reading.{annex_of, Leaves}
+use Rattle.annexreport.specs.Report.{report_of, Reportable}
 use Rattle.annexreport.proofs.report.Goals as goal
 
--- what was written of an outcome that is the annex's
-record Laid (o : Result Numbers Refusal) (before after : List ℕ) (count : ℕ) : Type 0 where
-  laid : after ≡ laid_over (report_of o) before
-  counted : count ≡ min (length before) (length (report_of o))
-  short : length (report_of o) ≤ 400
+-- the numbers of an annex that was read, or why it was not, are what the text grants
+read_is : (o : Result Numbers Refusal) (old new : NationalAnnex) → Leaves o old new → on_ok (λ _. new.numbers) (on_ok {Y = Unit {0}} (λ _. tt) o) ≡ o
+read_is (Ok n) old new h = ap Ok h
+read_is (Err e) old new h = refl
 
-pub returns-in-Ok : goal.returns-in-Ok
-returns-in-Ok c =
+reportable : (annex : NationalAnnex) (r : Result (Unit {0}) Refusal) → Reportable (on_ok (λ _. annex.numbers) r)
+reportable annex (Ok x) = (ranged_decides (fields_of annex.numbers)).0 annex.ranged
+reportable annex (Err e) = tt
+
+pub returns : goal.returns
+returns c =
     let annex = c.read.new.self in
-    let e : Ok c.numbers.result.now ≡ annex_of c.args.text.now = ap Ok c.numbers.ensures ∙ granted_means c.args.text.now c.new-annex.result annex c.in-Ok.ensures.answers c.in-Ok.ensures.leaves in
-    let kept = subst (λ n. Ranged (fields_of n)) (sym c.numbers.ensures) ((ranged_decides (fields_of annex.numbers)).0 annex.ranged) in
-    let w = subst (λ o. Laid o c.args.buffer.now c.write_report.new.buffer c.write_report.result) e (record { laid = c.write_report.ensures.laid; counted = c.write_report.ensures.counted; short = c.write_report.ensures.short kept }) in
-    record { laid = w.laid; counted = w.counted; short = w.short }
-
-pub returns-in-Err : goal.returns-in-Err
-returns-in-Err c =
-    let e = refused_for c.args.text.now c.in-Err.refusal c.in-Err.ensures.answers in
-    let w = subst (λ o. Laid o c.args.buffer.now c.write_report-in-Err.new.buffer c.write_report-in-Err.result) e (record { laid = c.write_report-in-Err.ensures.laid; counted = c.write_report-in-Err.ensures.counted; short = c.write_report-in-Err.ensures.short tt }) in
-    record { laid = w.laid; counted = w.counted; short = w.short }
+    let text = c.args.text.now in
+    let told : c.map-outcome.result ≡ on_ok (λ _. annex.numbers) c.read.result = search rules in
+    let is : c.map-outcome.result ≡ annex_of text = told ∙ ap (on_ok (λ _. annex.numbers)) c.read.ensures.answers ∙ read_is (annex_of text) c.new-annex.result annex c.read.ensures.leaves in
+    record {
+      laid = c.write_report.ensures.laid ∙ ap (λ o. laid_over (report_of o) c.args.buffer.now) is;
+      counted = c.write_report.ensures.counted ∙ ap (λ o. min (length c.args.buffer.now) (length (report_of o))) is;
+      short = subst (λ o. length (report_of o) ≤ 400) is (c.write_report.ensures.short (subst Reportable (sym told) (reportable annex c.read.result)));
+    }
