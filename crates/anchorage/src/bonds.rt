@@ -9,7 +9,7 @@ pub enum Bond {
     Other,
 }
 
-// A number that stands for no bond.
+// A number that stands for no bond; a type of its own, as each conversion has.
 #[derive(Clone, Copy, Debug, PartialEq, Eq)]
 pub struct UnknownBond {
     pub number: u32,

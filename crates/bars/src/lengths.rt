@@ -54,7 +54,7 @@ impl TestedBar {
             .max(200)
     }
 
-    // The figure, in mm.
+    // The figure, in mm. Both lengths fit: they are proved to, and `try_from` would add a failure that cannot happen.
     #[tactic(auto, using(anchorage::proofs::Computing::longest), unfolding(anchorage::specs::Lengths::figure, anchorage::specs::Lengths::required))]
     pub(crate) fn required_length(&self) -> u32
         ensures { result ≡ figure self.now.detail self.now.bar }

@@ -30,7 +30,7 @@ fn fields_agree(line: &BarLine) -> bool
 }
 
 impl<A: Annex> BarBook<A> {
-    // The first field that does not admit its number, counted from 1.
+    // The first field that does not admit its number, counted from 1; there are few, so it fits.
     fn first_out(&self, line: &BarLine) -> Option<u32>
         ensures { result ≡ first_failed (test_at (in_range line.now)) 0 (length (in_range line.now)) }
     {

@@ -6,7 +6,8 @@ use crate::faults::LineFault;
 use eurocode::Situation;
 
 // A book of rules for lines of one kind. Rules count from 1. No question asks for the order or the exact requirement:
-// these are what the answers are measured by.
+// these are what the answers are measured by. Each question is asked of a situation and a line; a pair of the two would have
+// to be made at every call.
 pub trait Book {
     type Line: Copy;
 

@@ -5,7 +5,7 @@ ghost use Rattle.book.specs.Fields.{tested_as};
 use crate::faults::LineFault;
 
 // The test of a line, by the first field that does not admit its number, counted from 1, whether the fields agree, and
-// whether the stress can be borne.
+// whether the stress can be borne. Three plain answers, so that the order of the faults is said once, for all books.
 pub fn verdict(first_out: Option<u32>, agree: bool, borne: bool) -> Result<(), LineFault>
     ensures { result ≡ tested_as first_out agree borne }
 {

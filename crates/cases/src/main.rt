@@ -64,7 +64,7 @@ fn thickest(annex: &NationalAnnex) -> u32 {
     Diameter::new(40).map_or(0, |diameter| annex.multiple(diameter))
 }
 
-// A refusal's three numbers.
+// A refusal's three numbers, as this program writes them: of what a `Display` writes no contract could be stated.
 fn refused(heap: Global, refusal: Refusal) -> Result<String, AllocError> {
     let (number, line, place) = refusal.numbers();
     format!(in heap; "{number};{line};{place}")

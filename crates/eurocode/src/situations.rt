@@ -4,7 +4,8 @@ ghost use Rattle.eurocode.specs.Situations.{number_of, situation_of, situation_n
 
 use crate::Situation;
 
-// A number that no design situation bears.
+// A number that no design situation bears. A type for each conversion: one for all would take what was sought for a
+// parameter that it does not hold.
 #[derive(Clone, Copy, Debug, PartialEq, Eq)]
 pub struct UnknownSituation {
     pub number: u32,

@@ -22,7 +22,7 @@ pub const FCTK: [u32; 9] = [11, 13, 15, 18, 20, 22, 25, 27, 29];
 // Mean tensile strength beside each strength, in tenths of MPa.
 pub const FCTM: [u32; 9] = [16, 19, 22, 26, 29, 32, 35, 38, 41];
 
-// The row of x in a table, from 0.
+// The row of x in a table, from 0: a line of the library's, as the place of a byte in a text is in another crate.
 fn place_in(x: u32, table: &[u32]) -> Option<usize>
     ensures { result ≡ position (λ y. y == x) table.now }
 {

@@ -27,7 +27,7 @@ fn entry_of(dia: &String, fck: &String, bond: &String) -> Option<Entry> {
     })
 }
 
-// Prints the pages that these words ask for, one after the other.
+// Prints the pages that these words ask for, one after the other: `tables`, `curve`, and by any other name the picture.
 fn print_pages(rt: &HostRuntime, words: &[String]) -> anyhow::Result<()> {
     match words {
         [] => Ok(()),

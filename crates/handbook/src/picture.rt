@@ -51,6 +51,7 @@ fn down(length: u32, most: u32) -> u64 {
 fn print_head(rt: &HostRuntime, entry: Entry) -> io::Result<()> {
     let dia = entry.diameter.mm();
     let fck = entry.strength.fck();
+    // The picture's own words, used once.
     let bond = match entry.bond {
         Bond::Good => "good bond",
         Bond::Other => "other bond",

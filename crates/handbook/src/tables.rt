@@ -30,6 +30,7 @@ fn print_row(rt: &HostRuntime, entry: Entry) -> io::Result<()> {
     println!(rt; "{bond};{dia};{fck};{anchorage};{half};{all}")
 }
 
+// A walk along a table has no name that a function could return it by, so it is written at each.
 fn print_diameter(rt: &HostRuntime, bond: Bond, diameter: Diameter) -> io::Result<()> {
     for strength in Strength::table()
         .iter()

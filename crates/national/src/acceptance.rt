@@ -29,7 +29,7 @@ pub(crate) fn accepted(fields: &[u32; NUMBERS]) -> Result<Numbers, Refusal>
     Ok(Numbers::from(*fields))
 }
 
-// The first field out of its range, from 1.
+// The first field out of its range, from 1; there are few, so it fits.
 fn first_out(fields: &[u32; NUMBERS]) -> Option<u32>
     ensures { result ≡ first_out fields.now }
 {

@@ -48,7 +48,7 @@ pub struct Lexer<'t> {
     in_names: bool,
 }
 
-// The place of the first `byte`.
+// The place of the first `byte`: a line of the library's, as the row of a number in a table is in another crate.
 fn place_of(byte: u8, bytes: &[u8]) -> Option<usize>
     ensures { result ≡ position (λ b. b == byte) bytes.now }
 {
