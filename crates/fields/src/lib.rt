@@ -49,8 +49,9 @@ fn place_of_first(fields: &[Field], numbers: &[u32]) -> Option<usize>
         .position(|(field, n)| !field.values.admit(*n))
 }
 
-// The first field that does not admit its number, counted from 1: a `usize`, since nothing is asked of how many there are. As in `checklist`, but along two lists at once: one
-// function for both would have to take the walk and the test as closures, and say of both what they do.
+// The first field that does not admit its number, counted from 1: a `usize`, since nothing is asked of how many there are.
+// As in `checklist`, but along two lists at once: one function for both would have to take the walk and the test as
+// closures, and say of both what they do.
 pub fn first_out(fields: &[Field], numbers: &[u32]) -> Option<usize>
     ensures value { result ≡ first_failed (test_at (admitted (fields_of fields.now) numbers.now)) 0 (length (admitted (fields_of fields.now) numbers.now)) }
     ensures within { IfSome result (λ field. field ≤ length fields.now) }
