@@ -1,3 +1,4 @@
+pub mod Placed
 pub mod Tables
 pub mod Naming
 pub mod Bearing

@@ -27,8 +27,8 @@ fn read_values<const N: usize>(lexer: &mut Lexer) -> Result<[u32; N], Refusal>
     Ok(values)
 }
 
-// Values by field, given the place of each field. By index, since nothing is known of what is written through an adapter of
-// `iter_mut`.
+// Values by field, given the place of each field. By index: what `map` makes by a closure that holds the values could not be
+// read off its calls, and nothing is known of what is written through an adapter of `iter_mut`.
 fn sort_by_field<const N: usize>(places: &[u32; N], values: &[u32; N]) -> [u32; N]
     requires within { all_within N places.now ≡ true }
     ensures { result ≡ by_field places.now values.now }

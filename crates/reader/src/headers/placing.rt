@@ -1,5 +1,5 @@
 // The names in a text's first line, and the place of each.
-ghost use Rattle.std.specs.Prelude.{◌≡◌, MatchResult, OnOk};
+ghost use Rattle.std.specs.Prelude.{◌≡◌, ◌≤◌, MatchResult, OnOk};
 ghost use Rattle.refusal.specs.Refusals.{on_ok};
 ghost use Rattle.text.specs.Tokens.{ahead, this_line, later_lines};
 ghost use Rattle.reader.specs.Headers.{places_in};
@@ -17,15 +17,12 @@ fn find<const N: usize, T: Named<N>>(named: &T, name: &[u8]) -> Option<usize>
     named.fields().iter().position(|field| field.name == name)
 }
 
-// The place of each field, if each has one. By index, as in `sort_by_field`.
+// The place of each field, if each has one.
 fn all_placed<const N: usize>(found: &[Option<u32>; N]) -> Result<[u32; N], Refusal>
+    requires few { N ≤ 30 }
     ensures { result ≡ all_placed found.now }
 {
-    let mut places = [0; N];
-    for (field, place) in found.iter().enumerate() {
-        places[field] = place.ok_or(Refusal::Missing)?;
-    }
-    Ok(places)
+    found.try_map(|place| place.ok_or(Refusal::Missing))
 }
 
 // Passes the first line, and finds for each field the place at which its name stands. The places are counted beside the
