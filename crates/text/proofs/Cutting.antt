@@ -1,5 +1,5 @@
 -- A text cut at its line feeds and semicolons: the steps of the lexer. Assumes nothing.
-use Rattle.std.proofs.Common.{◌≡◌, ℕ, ◌+◌, ◌-◌, ◌<◌, ◌≤◌, Bool, true, false, cond, not, eqb, ltb, ◌==◌, List, [], ◌∷◌, ◌++◌, map, length, get_or, take, drop, is_some, Some, None, Option, sym, refl, ap, ◌∙◌, subst, arith, Bor}
+use Rattle.std.proofs.Common.{◌≡◌, ℕ, ◌+◌, ◌-◌, ◌<◌, ◌≤◌, Bool, true, false, cond, eqb, ltb, ◌==◌, List, [], ◌∷◌, ◌++◌, map, length, get_or, take, drop, Some, None, Option, sym, refl, ap, ◌∙◌, subst, arith}
 use Rattle.std.specs.List.{position, position_or_len}
 use Rattle.std.proofs.lemmas.List.Recursion.{is_count_by}
 use Rattle.std.proofs.lemmas.List.Sums.{fails_before_first, passes_at_first, count_by-le-length}
@@ -7,12 +7,11 @@ use Rattle.std.proofs.lemmas.Bool.Decides.{nat_tests}
 use Rattle.std.proofs.ByRecursion.{All-from_get_or}
 use Rattle.std.proofs.lemmas.List.{take-append-drop, take_rest, drop_more, get_or-take, length-take-le, length-map}
 use Rattle.std.proofs.lemmas.Bool.{cond-true, cond-false, ne_eqb, eqb-true, ltb-true, eq-eqb, true≢false, false≢true}
-use Rattle.std.specs.Option.{option_map}
 use Rattle.text.specs.declared.tokens.Lexer.{Lexer}
 use Rattle.text.specs.declared.tokens.Position.{Position}
 use Rattle.text.specs.declared.tokens.Position.TheVariants as position
 use Rattle.text.specs.Texts.{Bytes, Parts, on_first, between, lines_of, parts_of, parts_by_line, Lacks, line_feeds}
-use Rattle.text.specs.Tokens.{Lexeme, name, value, Gives, parts_behind, in_line, lines_from, ahead, this_line, next_part, after_next}
+use Rattle.text.specs.Tokens.{Lexeme, Gives, parts_behind, in_line, lines_from, ahead}
 
 -- no s below i is no s in the front of i bytes
 pub lacks_front : (bs : Bytes) (i s : ℕ) → i ≤ length bs → ((k : ℕ) → k < i → get_or bs k 0 ≡ s → ⊥) → Lacks s (take i bs)
@@ -84,28 +83,6 @@ in_line_lem : (p : Position) (ls : List Parts) → in_line p ≡ true → lines_
 in_line_lem position.LineStart ls h = absurd (false≢true h)
 in_line_lem (position.Part x) ls h = refl
 in_line_lem position.LineEnd ls h = refl
-
--- a part of this line comes, and the rest of the line is ahead
-pub gives_part : (n : Bool) (lines : List Parts) (line part : Bytes) (t : Lexeme) (l : Lexer) → parts_of line ≡ part ∷ parts_behind l.position → in_line l.position ≡ true → parts_by_line l.rest.now ≡ lines → l.in_names ≡ n → t ≡ cond n (name part) (value part) → Gives n (parts_of line ∷ lines) (Some t) l
-gives_part n lines line part t l parts inside rest flag token =
-    gives_at (ap (λ ps. ps ∷ lines) parts) (record { token = ap Some token; after = in_line_lem l.position _ inside ∙ ap (λ ls. parts_behind l.position ∷ ls) rest; names = flag })
-
--- a part that came is one of this line's, and where none came none is left
-pub part_came : (lines : List Parts) (r : Option (Bor Bytes)) → option_map (λ x. x.now) r ≡ next_part lines → is_some r ≡ true → length (this_line (after_next lines)) + 1 ≡ length (this_line lines)
-part_came [] (Some x) e h = absurd (let z : ◌≡◌ {A = ℕ} 0 1 = cc in omega arith)
-part_came ([] ∷ ls) (Some x) e h = absurd (let z : ◌≡◌ {A = ℕ} 0 1 = cc in omega arith)
-part_came ((p ∷ ps) ∷ ls) (Some x) e h = omega arith
-part_came lines None e h = absurd (false≢true h)
-
-pub part_gone : (lines : List Parts) (r : Option (Bor Bytes)) → option_map (λ x. x.now) r ≡ next_part lines → is_some r ≡ false → length (this_line lines) ≡ 0
-part_gone [] r e h = refl
-part_gone ([] ∷ ls) r e h = refl
-part_gone ((p ∷ ps) ∷ ls) (Some x) e h = absurd (true≢false h)
-part_gone ((p ∷ ps) ∷ ls) None e h = absurd (let z : ◌≡◌ {A = ℕ} 0 1 = cc in omega arith)
-
-pub parts_counted : (lines : List Parts) (o : Option (Bor Bytes)) (r : Bool) (n total : ℕ) → option_map (λ x. x.now) o ≡ next_part lines → is_some o ≡ not r → length (this_line lines) + n ≡ total → r ≡ eqb total n
-parts_counted lines o true n total e h t = let z = part_gone lines o e h in sym (eq-eqb total n (omega arith))
-parts_counted lines o false n total e h t = let z = part_came lines o e h in sym (ne_eqb total n (λ q. omega arith))
 
 pub feeds_le : (bs : Bytes) → line_feeds bs ≤ length bs
 feeds_le bs = count_by-le-length (λ b. b == 10) bs
