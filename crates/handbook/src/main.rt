@@ -7,6 +7,8 @@
 
 #![tactic(auto)]
 
+ghost use Rattle.std.specs.Prelude.{◌≤◌, length, IfOk};
+
 use anyhow::anyhow;
 use curves::{Bond, Entry};
 use eurocode::{Diameter, Strength, TabledSize};
@@ -27,27 +29,40 @@ fn entry_of(dia: &String, fck: &String, bond: &String) -> Option<Entry> {
     })
 }
 
-// Prints the pages that these words ask for, one after the other: `tables`, `curve`, and by any other name the picture.
-fn print_pages(rt: &HostRuntime, words: &[String]) -> anyhow::Result<()> {
-    match words {
-        [] => Ok(()),
-        [name, rest @ ..] if name.as_str() == "tables" => {
-            tables::print(rt)?;
-            print_pages(rt, rest)
-        }
-        [name, dia, fck, bond, rest @ ..] => {
-            let Some(entry) = entry_of(dia, fck, bond) else {
-                return Err(anyhow!("{USAGE}"));
-            };
-            if name.as_str() == "curve" {
-                curve::print(rt, entry)?;
-            } else {
-                picture::print(rt, entry)?;
-            }
-            print_pages(rt, rest)
-        }
-        [..] => Err(anyhow!("{USAGE}")),
+// Prints the page of a name: `tables`, `curve`, and by any other name the picture. Gives the words behind those it took.
+fn print_page<'w>(
+    rt: &HostRuntime,
+    name: &String,
+    behind: &'w [String],
+) -> anyhow::Result<&'w [String]>
+    ensures { IfOk result (λ rest. length rest.now ≤ length behind.now) }
+{
+    if name.as_str() == "tables" {
+        tables::print(rt)?;
+        return Ok(behind);
     }
+    let [dia, fck, bond, rest @ ..] = behind else {
+        return Err(anyhow!("{USAGE}"));
+    };
+    let Some(entry) = entry_of(dia, fck, bond) else {
+        return Err(anyhow!("{USAGE}"));
+    };
+    if name.as_str() == "curve" {
+        curve::print(rt, entry)?;
+    } else {
+        picture::print(rt, entry)?;
+    }
+    Ok(rest)
+}
+
+// Prints the pages that these words ask for, one after the other; by a loop, since a call for each could overflow the
+// stack.
+fn print_pages(rt: &HostRuntime, words: &[String]) -> anyhow::Result<()> {
+    let mut words = words;
+    while let [name, behind @ ..] = words {
+        words = print_page(rt, name, behind)?;
+    }
+    Ok(())
 }
 
 fn pages(rt: &HostRuntime) -> anyhow::Result<()> {
