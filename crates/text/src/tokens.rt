@@ -74,11 +74,11 @@ fn first_part<'t>(line: &'t [u8]) -> (&'t [u8], Position<'t>)
     }
 }
 
-// How many line feeds there are.
+// How many line feeds there are: a 0 or 1 is added for each byte, where `filter` and `count` would branch at each.
 fn line_feeds(bytes: &[u8]) -> usize
     ensures { result ≡ line_feeds bytes.now }
 {
-    bytes.iter().filter(|b| **b == b'\n').count()
+    bytes.iter().map(|b| usize::from(*b == b'\n')).sum()
 }
 
 impl<'t> Lexer<'t> {
