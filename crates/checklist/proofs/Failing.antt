@@ -32,6 +32,17 @@ none_decides test i n = go (first_failed test i n) (first_law test i n)
     go None all = (λ _. all, λ _. refl)
     go (Some f) first = (λ e. absurd (both_ways false refl e), λ all. absurd (both_ways (test (f - 1)) first.fails (all (f - 1) (omega (arith, first.from)) (omega (arith, first.from, first.upto)))))
 
+-- a look for the first failure, place by place up to `end`
+module _ (test : ℕ → Bool) (i end : ℕ) where
+  pub first_more : i < end → test i ≡ true → first_failed test i (end - i) ≡ first_failed test (i + 1) (end - (i + 1))
+  first_more h t = let e : end - i ≡ suc (end - (i + 1)) = omega arith in ap (first_failed test i) e ∙ ap (λ b. cond b (first_failed test (i + 1) (end - (i + 1))) (Some (i + 1))) t
+
+  pub first_stops : i < end → test i ≡ false → first_failed test i (end - i) ≡ Some (i + 1)
+  first_stops h t = let e : end - i ≡ suc (end - (i + 1)) = omega arith in ap (first_failed test i) e ∙ ap (λ b. cond b (first_failed test (i + 1) (end - (i + 1))) (Some (i + 1))) t
+
+  pub first_all : end ≤ i → first_failed test i (end - i) ≡ None
+  first_all h = let e : end - i ≡ 0 = omega arith in ap (first_failed test i) e
+
 -- tests that agree on these places fail first at the same
 pub same_first : (test other : ℕ → Bool) (i n : ℕ) → ((k : ℕ) → i ≤ k → k < i + n → test k ≡ other k) → first_failed test i n ≡ first_failed other i n
 same_first test other i zero h = refl
