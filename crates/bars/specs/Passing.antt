@@ -56,6 +56,10 @@ module _ (n : Numbers) (s : Situation) (l : BarLine) (e : is_ok (test_of n s l) 
   unfolding in_range
   fck_tabled = admits_at 2 (lit< tt)
 
+  pub bond_most : l.bond ≤ 2
+  unfolding in_range
+  bond_most = most 1 2 l.bond (admits_at 5 (lit< tt))
+
   pub form_most : l.form ≤ 1
   unfolding in_range
   form_most = leb-true l.form 1 (admits_at 18 (lit< tt))
