@@ -4,6 +4,7 @@ use Rattle.std.specs.List.{position, position_from, zip}
 use Rattle.std.proofs.lemmas.Iterator.Adapters.{position_from-zero}
 use Rattle.std.proofs.lemmas.Bool.Decides.{nat_tests}
 use Rattle.std.specs.Option.{option_map}
+use Rattle.std.proofs.lemmas.List.FromFn.{fill_by_all}
 use Rattle.std.proofs.lemmas.List.{get_or-drop, get_or-map, length-drop, length-map}
 use Rattle.std.proofs.lemmas.Slice.Zip.{length-zip, get_or-zip}
 use Rattle.std.proofs.lemmas.Bool.{and_parts, and_from, eq-eqb, both_ways}
@@ -86,6 +87,10 @@ fall_found ns full =
     same k lt =
         let below : k < length (steps ns) = omega (arith, lt, length-map (steps ns) (λ p. leb p.0 p.1)) in
         sym (get_or-map (λ p. leb p.0 p.1) (steps ns) k (0, 0) true below ∙ ap (λ p. leb p.0 p.1) (at k below))
+
+-- 21 numbers are those that their fields list
+pub fields_numbers : (ns : List ℕ) → length ns ≡ 21 → fields_of (numbers_of ns) ≡ ns
+fields_numbers ns h = sym (fill_by_all (λ i. get_or ns i 0) ns 21 0 h (λ k _. refl))
 
 -- what is accepted has passed both tests
 granted : (ns : List ℕ) (n : Numbers) (out fall : Option ℕ) → Ok n ≡ refused_at AnnexRange out (refused_at Falling fall (Ok (numbers_of ns))) → (n ≡ numbers_of ns) × (not (is_some out) ≡ true) × (not (is_some fall) ≡ true)
