@@ -10,31 +10,45 @@ use annex::NUMBERS;
 use fields::{Field, Values};
 use reader::Named;
 
+// The ranges that several numbers share, in the units of the numbers.
+
+// Of γc, in either situation.
+const CONCRETE_FACTOR: Values = Values::Between(100, 200);
+
+// Of γs, in either situation.
+const STEEL_FACTOR: Values = Values::Between(100, 150);
+
+// Of αct and of αcc.
+const LONG_TERM_FACTOR: Values = Values::Between(80, 100);
+
+// Of the least mandrel diameters.
+const MULTIPLE: Values = Values::Between(1, 20);
+
 // By field its name, and the least and the greatest number.
 const ANNEX_FIELDS: &[Field] = &[
     Field {
         name: b"gc1",
-        values: Values::Between(100, 200),
+        values: CONCRETE_FACTOR,
     },
     Field {
         name: b"gc2",
-        values: Values::Between(100, 200),
+        values: CONCRETE_FACTOR,
     },
     Field {
         name: b"gs1",
-        values: Values::Between(100, 150),
+        values: STEEL_FACTOR,
     },
     Field {
         name: b"gs2",
-        values: Values::Between(100, 150),
+        values: STEEL_FACTOR,
     },
     Field {
         name: b"act",
-        values: Values::Between(80, 100),
+        values: LONG_TERM_FACTOR,
     },
     Field {
         name: b"acc",
-        values: Values::Between(80, 100),
+        values: LONG_TERM_FACTOR,
     },
     Field {
         name: b"k1",
@@ -54,47 +68,47 @@ const ANNEX_FIELDS: &[Field] = &[
     },
     Field {
         name: b"m6",
-        values: Values::Between(1, 20),
+        values: MULTIPLE,
     },
     Field {
         name: b"m8",
-        values: Values::Between(1, 20),
+        values: MULTIPLE,
     },
     Field {
         name: b"m10",
-        values: Values::Between(1, 20),
+        values: MULTIPLE,
     },
     Field {
         name: b"m12",
-        values: Values::Between(1, 20),
+        values: MULTIPLE,
     },
     Field {
         name: b"m14",
-        values: Values::Between(1, 20),
+        values: MULTIPLE,
     },
     Field {
         name: b"m16",
-        values: Values::Between(1, 20),
+        values: MULTIPLE,
     },
     Field {
         name: b"m20",
-        values: Values::Between(1, 20),
+        values: MULTIPLE,
     },
     Field {
         name: b"m25",
-        values: Values::Between(1, 20),
+        values: MULTIPLE,
     },
     Field {
         name: b"m28",
-        values: Values::Between(1, 20),
+        values: MULTIPLE,
     },
     Field {
         name: b"m32",
-        values: Values::Between(1, 20),
+        values: MULTIPLE,
     },
     Field {
         name: b"m40",
-        values: Values::Between(1, 20),
+        values: MULTIPLE,
     },
 ];
 
