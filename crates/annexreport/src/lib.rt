@@ -11,7 +11,6 @@ ghost use Rattle.annexreport.specs.Report.{numbers_text, refusal_text, report_of
 
 use annex::{Annex, NUMBERS, Numbers};
 use national::{AnnexFields, NationalAnnex};
-use reader::Named;
 use refusal::Refusal;
 use writer::{Ending, Writer};
 

@@ -6,10 +6,9 @@ ghost use Rattle.bars.specs.Tests.{in_range, agrees, borne, test_of};
 use crate::books::BarBook;
 use crate::lines::BarLine;
 use annex::Annex;
-use book::{LineFault, WrittenBook, verdict};
+use book::{LineFault, verdict};
+use checklist::first_failed;
 use eurocode::Situation;
-use fields::first_out;
-use reader::Named;
 
 // Whether the fields agree: a straight bar has neither mandrel nor pitch, any other has both; an anchorage has no share,
 // no distance between laps and no form of links, and a lap has a share and no welded bar.
@@ -34,7 +33,7 @@ impl<A: Annex> BarBook<A> {
     fn first_out(&self, line: &BarLine) -> Option<u32>
         ensures { result ≡ first_failed (test_at (in_range line.now)) 0 (length (in_range line.now)) }
     {
-        first_out(self.fields(), &self.numbers(line)).map(|field| field as u32)
+        first_failed(&self.admitted(line)).map(|field| field as u32)
     }
 
     // Whether the stress is at most fyk/γs.

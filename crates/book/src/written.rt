@@ -4,32 +4,19 @@ ghost use Rattle.std.specs.Option.{option_map};
 ghost use Rattle.book.specs.Written.{Lists};
 
 use crate::books::Book;
-use reader::{Named, number_at};
+use reader::Named;
 
-// A book whose N fields have names. A line is the list of its numbers, one for each name, in the order of the names.
-pub trait WrittenBook<const N: usize>: Book + Named<N> {
+// A book whose fields have names. A line is the list of its numbers, one for each name, in the order of the names.
+pub trait WrittenBook: Book + Named {
     ghost numbers: { Self → Self.Line → List ℕ };
 
-    fn numbers(&self, line: &Self::Line) -> [u32; N]
-        ensures { result ≡ numbers self.now line.now };
-
-    fn line_of(&self, fields: &[u32; N]) -> Self::Line
-        ensures { numbers self.now result ≡ fields.now };
-
-    // The number of a field, counted from 0; 0 past the last, so that no question of a book is refused.
+    // The number of a field, counted from 0; 0 past the last.
     fn number(&self, line: &Self::Line, field: usize) -> u32
-        ensures { result ≡ slice_index (numbers self.now line.now) field }
-    {
-        number_at(&self.numbers(line), field)
-    }
+        ensures { result ≡ slice_index (numbers self.now line.now) field };
 
     // The line of these numbers, if they are as many as the names.
     fn line(&self, fields: &[u32]) -> Option<Self::Line>
-        ensures { option_map (numbers self.now) result ≡ (if nat_eq (length fields.now) (length (Self.names self.now)) then Some fields.now else None) }
-    {
-        let fields = <&[u32; N]>::try_from(fields).ok()?;
-        Some(self.line_of(fields))
-    }
+        ensures { option_map (numbers self.now) result ≡ (if nat_eq (length fields.now) (length (Self.names self.now)) then Some fields.now else None) };
 
     ghost listed: { (b : Self) → Lists (length (Self.names b)) (numbers b) };
 }

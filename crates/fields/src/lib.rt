@@ -2,10 +2,10 @@
 
 #![tactic(auto)]
 
-ghost use Rattle.std.specs.Prelude.{◌≡◌, ◌<◌, ◌≤◌, length, not, position, IfSome};
+ghost use Rattle.std.specs.Prelude.{◌≡◌, ◌<◌, ◌≤◌, [], length, not, position, slice_index_or, IfSome};
 ghost use Rattle.std.specs.List.{zip};
 ghost use Rattle.checklist.specs.Firsts.{first_failed, test_at};
-ghost use Rattle.fields.specs.Fields.{admits, admitted};
+ghost use Rattle.fields.specs.Fields.{admits, admitted, names_of};
 ghost use Rattle.fields.specs.Tables.{values_of, fields_of};
 
 // The values of a field.
@@ -26,7 +26,8 @@ pub struct Field {
 }
 
 impl Values {
-    // Whether a number is one of these values.
+    // Whether a number is one of these values. Inlined, so that of a field that stands there by name only its own test is left.
+    #[inline(always)]
     pub fn admit(self, n: u32) -> bool
         ensures { result ≡ admits (values_of self) n }
     {
@@ -35,6 +36,16 @@ impl Values {
             Values::Between(least, most) => (least <= n) & (n <= most),
             Values::OneOf(values) => values.contains(&n),
         }
+    }
+}
+
+// The name of a field, counted from 0; empty where there is no such field, so that nothing is asked of the caller.
+pub fn name_of(fields: &[Field], field: usize) -> &'static [u8]
+    ensures { result.now ≡ slice_index_or (names_of (fields_of fields.now)) field [] }
+{
+    match fields.get(field) {
+        Some(field) => field.name,
+        None => b"",
     }
 }
 

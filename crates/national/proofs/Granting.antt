@@ -69,6 +69,10 @@ said_length text ns s = by s.rest s.values
     by [] u = absurd u
     by (parts ∷ rest) u = u.0.fields_count
 
+-- so have the numbers that are written
+pub written_length : (text : Bytes) (ns : List ℕ) → Ok ns ≡ written_of text → length ns ≡ 21
+written_length text ns e = said_length text ns (written_says text ns (sym e))
+
 by_result : {X : Type 0} (r : Result X Refusal) (P : Result X Refusal → Type 0) → ((x : X) → r ≡ Ok x → P (Ok x)) → ((e : Refusal) → r ≡ Err e → P (Err e)) → P r
 by_result (Ok x) P a b = a x refl
 by_result (Err e) P a b = b e refl

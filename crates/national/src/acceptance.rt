@@ -7,7 +7,6 @@ ghost use Rattle.national.specs.Acceptance.{accepted_of};
 
 use crate::names::AnnexFields;
 use annex::{MULTIPLES, NUMBERS, Numbers};
-use reader::Named;
 use refusal::Refusal;
 
 // The place of the first multiple.

@@ -7,7 +7,7 @@ ghost use Rattle.national.specs.Acceptance.{annex_fields};
 ghost use Rattle.reader.proofs.Naming.{well_named};
 
 use annex::NUMBERS;
-use fields::{Field, Values};
+use fields::{Field, Values, name_of};
 use reader::Named;
 
 // The ranges that several numbers share, in the units of the numbers.
@@ -116,17 +116,26 @@ const ANNEX_FIELDS: &[Field] = &[
 #[derive(Clone, Copy)]
 pub struct AnnexFields;
 
-impl Named<NUMBERS> for AnnexFields {
-    ghost names = { λ _. annex_names };
-
-    ghost counted = { λ _. refl };
-
-    ghost named = { λ _. well_named annex_names refl };
-
-    fn fields(&self) -> &'static [Field]
+impl AnnexFields {
+    // The fields, in their order.
+    pub fn fields(self) -> &'static [Field]
         ensures names { names_of (fields_of result.now) ≡ annex_names }
         ensures fields { fields_of result.now ≡ annex_fields }
     {
         ANNEX_FIELDS
+    }
+}
+
+impl Named for AnnexFields {
+    ghost names = { λ _. annex_names };
+
+    ghost named = { λ _. well_named annex_names refl };
+
+    fn field_count(&self) -> usize {
+        NUMBERS
+    }
+
+    fn field_name(&self, field: usize) -> &[u8] {
+        name_of(self.fields(), field)
     }
 }

@@ -1,9 +1,9 @@
 -- A header is read exactly where it bears each name once, and then it has as many parts as there are names.
 -- Assumes nothing.
-use Rattle.std.proofs.Common.{◌≡◌, ℕ, zero, suc, ◌+◌, ◌-◌, ◌<◌, true, false, cond, not, ◌&&◌, ◌⊎◌, List, [], ◌∷◌, ◌++◌, map, length, get_or, is_some, Some, None, Ok, Err, Option, Result, sym, refl, ap, ◌∙◌, subst, inl, inr, ⊎_elim, append_assoc, append-nil, arith, length-append, MatchResult}
+use Rattle.std.proofs.Common.{◌≡◌, ℕ, zero, suc, ◌+◌, ◌-◌, ◌<◌, true, false, cond, not, ◌&&◌, ◌⊎◌, List, [], ◌∷◌, ◌++◌, map, length, get_or, take, is_some, Some, None, Ok, Err, Option, Result, sym, refl, ap, ◌∙◌, subst, inl, inr, ⊎_elim, append_assoc, append-nil, arith, length-append, MatchResult}
 use Rattle.std.specs.Str.{bytes_eq}
 use Rattle.std.proofs.lemmas.Slice.Eq.{bytes_eq-Decides}
-use Rattle.std.proofs.lemmas.List.{get_or-map, get_or_append_left, get_or_at, length-map, length_push}
+use Rattle.std.proofs.lemmas.List.{get_or-map, get_or_append_left, get_or_at, length-map, length_push, take_at}
 use Rattle.std.proofs.lemmas.Bool.{cases_Bool, cases_lt, cond-true, cond-false, and_parts, and_cases, not-true, not-false, false≢true}
 use Rattle.refusal.specs.declared.Refusal.{Refusal}
 use Rattle.text.specs.Texts.{Bytes}
@@ -136,8 +136,8 @@ told_all ns seen (h ∷ hs) g =
 pub header_law : (ns hs : List Bytes) → Unlike ns → Told ns hs (places_of ns hs)
 header_law ns hs u = told_all ns [] hs (record { unlike = u; count = count_none ns; known = λ k lt. absurd (omega arith); once = λ i j li lj e. absurd (omega arith) })
 
--- the table of a header that was read lies in the line
-pub header_ready : (ns hs : List Bytes) (n : ℕ) (t : List ℕ) → Unlike ns → length ns ≡ n → Ok t ≡ places_of ns hs → all_within n t ≡ true
-header_ready ns hs n t u is e =
+-- the table of a header that was read lies in the line, and stands at the front of a longer table
+pub header_ready : (ns hs : List Bytes) (n : ℕ) (t post : List ℕ) → Unlike ns → n ≡ length ns → length t ≡ n → Ok t ≡ places_of ns hs → all_within n (take n (t ++ post)) ≡ true
+header_ready ns hs n t post u is long e =
     let p : Placed ns hs t = subst (Told ns hs) (sym e) (header_law ns hs u) in
-    within_from n t (λ f lt. let w = p.at f (omega (arith, p.long)) in (w.0, omega (arith, w.1, p.count)))
+    ap (all_within n) (take_at t post n long) ∙ within_from n t (λ f lt. let w = p.at f (omega (arith, p.long)) in (w.0, omega (arith, w.1, p.count)))

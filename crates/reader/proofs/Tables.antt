@@ -1,9 +1,8 @@
 -- The names of a header, one by one, and the table of their places. Assumes nothing.
-use Rattle.std.proofs.Common.{◌≡◌, ◌≢◌, ℕ, zero, suc, ◌+◌, ◌<◌, ◌≤◌, true, false, cond, not, ◌&&◌, List, [], ◌∷◌, ◌++◌, map, length, get_or, set, replicate, is_some, Some, None, Err, Option, MatchOption, sym, refl, ap, ◌∙◌, subst, ⊎_elim, arith}
-use Rattle.std.specs.List.{AllWithin, HoldsAt}
+use Rattle.std.proofs.Common.{◌≡◌, ◌≢◌, ℕ, zero, suc, ◌+◌, ◌-◌, ◌<◌, ◌≤◌, true, false, cond, not, ◌&&◌, List, [], ◌∷◌, ◌++◌, map, length, get_or, set, take, replicate, is_some, Some, None, Err, Option, sym, refl, ap, ◌∙◌, subst, ⊎_elim, arith}
 use Rattle.std.specs.Str.{bytes_eq}
 use Rattle.std.proofs.lemmas.Slice.Eq.{bytes_eq-Decides}
-use Rattle.std.proofs.lemmas.List.{same_lists, get_or-map, get_or-set_same, get_or-set_other, length-set, length-map, length_push}
+use Rattle.std.proofs.lemmas.List.{same_lists, get_or-map, get_or-set_same, get_or-set_other, length-set, length-map, length_push, take-replicate}
 use Rattle.std.proofs.lemmas.Bool.{cases_Bool, cases_eq, cond-true, cond-false, cond_both, and_from, and_left, and_right, not_from_true, false≢true}
 use Rattle.text.specs.Tokens.{this_line, later_lines, next_part, after_next}
 use Rattle.refusal.specs.declared.Refusal.TheVariants.{Name}
@@ -84,8 +83,11 @@ none_placed : (ns : List Bytes) → replicate (length ns) None ≡ map (place_in
 none_placed [] = refl
 none_placed (n ∷ ns) = ap (λ l. None ∷ l) (none_placed ns)
 
-pub placing_none : (ns : List Bytes) (entry : List Parts) (n : ℕ) → length ns ≡ n → Placing ns entry entry (replicate n None) 0
-placing_none ns entry n e = record { seen = []; count = refl; table = ap (λ k. replicate k None) (sym e) ∙ none_placed ns; left = refl; placed = count_none ns; later = refl }
+-- a table begins with room for all fields, and none has a place; the checker writes the front of a table with n - 0
+pub placing_none : (ns : List Bytes) (entry : List Parts) (n most : ℕ) → n ≡ length ns → n ≤ most → Placing ns entry entry (take (n - 0) (replicate most None)) 0
+placing_none ns entry n most e few =
+    let front : n - 0 ≡ n = omega arith in
+    record { seen = []; count = refl; table = ap (λ k. take k (replicate most None)) front ∙ take-replicate n most None few ∙ ap (λ k. replicate k None) e ∙ none_placed ns; left = refl; placed = count_none ns; later = refl }
 
 module _ (ns : List Bytes) (unlike : Unlike ns) (seen : List Bytes) (q : List ℕ) (field : ℕ) (lt : field < length ns) (is : get_or ns field [] ≡ q) where
   -- the table after a name that did not stand before
@@ -154,10 +156,3 @@ placing_stops ns entry ((q ∷ ps) ∷ ls) found name place o h e f z = ap (λ n
 -- a field that has a place
 pub has_place : (found : List (Option ℕ)) (o : Option ℕ) (i : ℕ) → o ≡ Some i → is_some (get_or found i None) ≡ true → (j : ℕ) → o ≡ Some j → get_or found j None ≢ None
 has_place found o i is some j js none = let e : i ≡ j = same_some (sym is ∙ js) in false≢true (sym (ap (λ k. is_some (get_or found k None)) e ∙ ap is_some none) ∙ some)
-
--- the search for a name among what bears the names
-pub finds : {A : Type 0} (named : A → Bytes) (name : Bytes) (all : List A) (names : List Bytes) (r : Option ℕ) → MatchOption r (AllWithin (λ x. named x ≢ name) all 0 (length all)) (λ i. (i < length all) × HoldsAt (λ x. named x ≡ name) all i × AllWithin (λ x. named x ≢ name) all 0 i) → map named all ≡ names → Finds name names r
-finds named name [] names None h e = λ k lt _. omega (arith, ap length e)
-finds named name (b ∷ bs) names None h e = λ k lt same. let long : length (b ∷ bs) ≡ length names = sym (length-map (b ∷ bs) named) ∙ ap length e in h k b (omega arith) (omega arith) (sym (get_or-map named (b ∷ bs) k b [] (omega arith)) ∙ ap (λ l. get_or l k []) e ∙ same)
-finds named name [] names (Some i) h e = absurd (omega (arith, h.0))
-finds named name (b ∷ bs) names (Some i) h e = (omega (arith, h.0, sym (length-map (b ∷ bs) named) ∙ ap length e), ap (λ l. get_or l i []) (sym e) ∙ get_or-map named (b ∷ bs) i b [] h.0 ∙ h.1 b)

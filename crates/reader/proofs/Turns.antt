@@ -1,12 +1,12 @@
 -- The values of a line, one by one, and their sorting by field. Assumes nothing.
-use Rattle.std.proofs.Common.{◌≡◌, ℕ, zero, suc, ◌+◌, ◌<◌, ◌≤◌, true, leb, List, [], ◌∷◌, ◌++◌, length, get_or, take, Ok, Err, Result, sym, refl, ap, ◌∙◌, arith}
+use Rattle.std.proofs.Common.{◌≡◌, ℕ, zero, suc, ◌+◌, ◌-◌, ◌<◌, ◌≤◌, true, leb, List, [], ◌∷◌, ◌++◌, length, get_or, take, Ok, Err, Result, sym, refl, ap, ◌∙◌, arith}
 use Rattle.std.proofs.lemmas.Bool.{and_parts, and_from, leb-true, le-leb}
 use Rattle.refusal.specs.declared.Refusal.{Refusal}
 use Rattle.refusal.specs.Refusals.{at_line, on_ok, on_err}
 use Rattle.text.specs.Texts.{Parts}
 use Rattle.text.specs.Tokens.{this_line, later_lines}
 use Rattle.reader.specs.Places.{all_within}
-use Rattle.reader.specs.Lines.{values_from, line_of, line_then, lines_from}
+use Rattle.reader.specs.Lines.{values_from, values_of, by_field, line_of, line_then, lines_from}
 
 -- values in front of those that are still to come
 abbrev pub behind : List ℕ → Result (List ℕ) Refusal → Result (List ℕ) Refusal
@@ -60,7 +60,17 @@ pub checking_all : (places : List ℕ) (entry lines : List Parts) (line : ℕ) �
 checking_all places entry [] line h le = ap Ok (omega arith) ∙ h.count
 checking_all places entry (l ∷ ls) line h le = absurd (omega (arith, h.total))
 
--- what is read is no refusal that was told its line
+-- a line that was read, then sorted by field; the checker writes the front of a table with n - 0
+pub line_read : (n k : ℕ) (places values : List ℕ) (parts : Parts) → Ok values ≡ values_of k parts → k ≡ length (take n places) → Ok (by_field (take (n - 0) places) values) ≡ line_of (take n places) parts
+line_read n k places values parts read e =
+    let z : n - 0 ≡ n = omega arith in
+    ap (λ m. Ok (by_field (take m places) values)) z ∙ ap (on_ok (by_field (take n places))) (read ∙ ap (λ j. values_of j parts) e)
+
+-- a refusal that is told its line, and what is no refusal
+pub told_stops : {X Y : Type 0} (f : X → Y) (r : Result X Refusal) (k : ℕ) (e : Refusal) → on_err (at_line k) r ≡ Err e → Err e ≡ on_err (at_line k) (on_ok f r)
+told_stops f (Ok x) k e h = absurd (let z : ◌≡◌ {A = ℕ} 0 1 = cc in omega arith)
+told_stops f (Err d) k e h = let same : e ≡ at_line k d = cc in ap Err same
+
 pub told_goes : {X : Type 0} (r : Result X Refusal) (k : ℕ) (x : X) → on_err (at_line k) r ≡ Ok x → r ≡ Ok x
 told_goes (Ok y) k x h = h
 told_goes (Err d) k x h = absurd (let z : ◌≡◌ {A = ℕ} 0 1 = cc in omega arith)

@@ -1,9 +1,7 @@
-// What was learnt from a text's first line. The calls are in modules below, since a struct's invariant may not cite what is
-// defined of that struct.
-ghost use Rattle.std.specs.Prelude.{◌≡◌, ◌≤◌, true, ⊤};
+// What was learnt from a text's first line, and a line of its values. The calls are in modules below, since a struct's
+// invariant may not cite what is defined of that struct.
+ghost use Rattle.std.specs.Prelude.{◌≡◌, ◌≤◌, true, take};
 ghost use Rattle.reader.specs.Places.{all_within};
-
-use std::alloc::AllocError;
 
 mod line;
 mod placing;
@@ -11,22 +9,22 @@ mod whole;
 
 pub use whole::check;
 
-// For each of N fields the place, from 1, at which its name stands in the first line.
-pub struct Header<const N: usize> {
-    places: [u32; N],
-    ghost few: { N ≤ 30 },
-    ghost placed: { all_within N places ≡ true },
+// The most fields that names can be given to.
+pub const MOST_FIELDS: usize = 30;
+
+// For each field the place, from 1, at which its name stands in the first line.
+#[derive(Clone, Copy)]
+pub struct Header {
+    places: [u32; MOST_FIELDS],
+    fields: usize,
+    ghost few: { fields ≤ 30 },
+    ghost placed: { all_within fields (take fields places) ≡ true },
 }
 
-// By hand, since no derive takes a ghost field of a generic struct.
-impl<const N: usize> Clone for Header<N> {
-    ghost is_clone = { λ header copy. copy ≡ header };
-
-    ghost is_infallible = { λ _. ⊤ };
-
-    fn clone(&self) -> Result<Header<N>, AllocError> {
-        Ok(*self)
-    }
+// The numbers of one line, in the order of the fields.
+#[derive(Clone, Copy)]
+pub struct Fields {
+    numbers: [u32; MOST_FIELDS],
+    count: usize,
+    ghost few: { count ≤ 30 },
 }
-
-impl<const N: usize> Copy for Header<N> {}

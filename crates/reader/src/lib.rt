@@ -7,6 +7,6 @@ pub mod headers;
 pub mod names;
 pub mod numbers;
 
-pub use headers::{Header, check};
+pub use headers::{Fields, Header, check};
 pub use names::Named;
 pub use numbers::number_at;

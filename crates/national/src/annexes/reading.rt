@@ -1,6 +1,7 @@
 // How an annex is read from a text.
 ghost use Rattle.std.specs.Prelude.{◌≡◌, ℕ, List, [], ◌∷◌, IfErr, MatchResult};
 ghost use Rattle.refusal.specs.Refusals.{on_ok};
+ghost use Rattle.reader.specs.Headers.{numbers_in};
 ghost use Rattle.reader.specs.Says.{Says};
 ghost use Rattle.annex.specs.Numbers.{annex_names, numbers_of};
 ghost use Rattle.national.specs.Annexes.{means_of};
@@ -9,16 +10,16 @@ ghost use Rattle.national.specs.Reading.{written_of, annex_of, Grants, BreaksFir
 use crate::annexes::NationalAnnex;
 use crate::names::AnnexFields;
 use annex::NUMBERS;
-use reader::Header;
+use reader::{Fields, Header};
 use refusal::{Located, Refusal};
 use text::Lexer;
 
 // The one line of values stands below the names.
 const VALUE_LINE: u32 = 2;
 
-// The numbers that an annex text has on its one line of values, by field.
-fn written(text: &[u8]) -> Result<[u32; NUMBERS], Refusal>
-    ensures { result ≡ written_of text.now }
+// The one line of values of an annex text.
+fn value_line(text: &[u8]) -> Result<Fields, Refusal>
+    ensures { on_ok numbers_in result ≡ written_of text.now }
 {
     let mut lexer = Lexer::open(text)?;
     let header = Header::read(&AnnexFields, &mut lexer)?;
@@ -26,6 +27,16 @@ fn written(text: &[u8]) -> Result<[u32; NUMBERS], Refusal>
         return Err(Refusal::AnnexLines);
     }
     header.line(&mut lexer).at_line(VALUE_LINE)
+}
+
+// The numbers that an annex text has on it, by field: as many as an annex has, since each has its name.
+fn written(text: &[u8]) -> Result<[u32; NUMBERS], Refusal>
+    ensures { result ≡ written_of text.now }
+{
+    let line = value_line(text)?;
+    let mut numbers = [0; NUMBERS];
+    numbers.copy_from_slice(line.as_slice());
+    Ok(numbers)
 }
 
 impl NationalAnnex {
