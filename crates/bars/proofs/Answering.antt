@@ -45,11 +45,11 @@ module _ (n : Numbers) (s : Situation) (l : BarLine) where
         ap (λ ts. get_or ts (r - 1) true) tests_are ∙ ap (λ k. get_or (true ∷ rules (detail_of l) (bar_of n s l)) k true) e
         ∙ sym (cond-true (is_ok (test_of n s l)) (bar_meets n s r l) true passed.0)
 
-  -- there is no rule 0
-  pub meets_none : (r : ℕ) → r ≡ 0 → true ≡ meets_of (bar_meaning n) s r l
+  -- there is no rule 0, and none past the eighth
+  pub meets_none : (r : ℕ) → get_or (true ∷ rules (detail_of l) (bar_of n s l)) r true ≡ true → true ≡ meets_of (bar_meaning n) s r l
   unfolding bar_meets
-  meets_none r e = sym (ap (λ k. meets_of (bar_meaning n) s k l) e ∙ go (is_ok (test_of n s l)))
+  meets_none r e = sym (go (is_ok (test_of n s l)))
     where
-      go : (t : Bool) → cond t true true ≡ true
-      go true = refl
+      go : (t : Bool) → cond t (get_or (true ∷ rules (detail_of l) (bar_of n s l)) r true) true ≡ true
+      go true = e
       go false = refl

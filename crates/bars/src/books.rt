@@ -40,13 +40,15 @@ impl<A: Annex> Book for BarBook<A> {
         self.test_line(situation, line)
     }
 
-    #[tactic(auto, using(crate::proofs::Answering::meets_none))]
     fn meets(&self, situation: Situation, rule: u8, line: &BarLine) -> bool {
+        // What is no rule is met by every line, and none is tested for it.
+        if rule == 0 || RULES < rule {
+            return true;
+        }
         let Some(bar) = self.tested_bar(situation, line) else {
             return true;
         };
-        let met = bar.rules_met();
-        rule == 0 || met.get(usize::from(rule) - 1).copied().unwrap_or(true)
+        bar.rules_met()[usize::from(rule) - 1]
     }
 
     #[tactic(auto, using(crate::proofs::Answering::figure_answer))]

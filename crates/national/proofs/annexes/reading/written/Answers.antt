@@ -1,4 +1,4 @@
-use Rattle.std.proofs.Common.{◌≡◌, length, Ok, sym, ap, ◌∙◌}
+use Rattle.std.proofs.Common.{length, Ok, sym, ap, ◌∙◌}
 use Rattle.national.proofs.Granting.{written_length}
 use Rattle.national.proofs.annexes.reading.written.Goals as goal
 
