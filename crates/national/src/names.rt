@@ -118,7 +118,7 @@ pub struct AnnexFields;
 
 impl AnnexFields {
     // The fields, in their order.
-    pub fn fields(self) -> &'static [Field]
+    pub fn fields(&self) -> &'static [Field]
         ensures names { names_of (fields_of result.now) ≡ annex_names }
         ensures fields { fields_of result.now ≡ annex_fields }
     {
