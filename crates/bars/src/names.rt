@@ -159,7 +159,7 @@ impl<A: Annex> BarBook<A> {
         BAR_FIELDS
     }
 
-    // Whether each field admits its number, in their order. One by one: a walk along the table takes half as long again, for
+    // Whether each field admits its number, in their order. One by one: a walk along the table takes three times as long, for
     // it looks up at each field which kind of values it has.
     pub(crate) fn admitted(&self, line: &BarLine) -> [bool; FIELDS]
         ensures { result ≡ in_range line.now }
