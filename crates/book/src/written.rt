@@ -10,7 +10,7 @@ use reader::Named;
 pub trait WrittenBook: Book + Named {
     ghost numbers: { Self → Self.Line → List ℕ };
 
-    // The number of a field, counted from 0; 0 past the last.
+    // The number of a field, counted from 0; 0 past the last, so that no question of a book is refused.
     fn number(&self, line: &Self::Line, field: usize) -> u32
         ensures { result ≡ slice_index (numbers self.now line.now) field };
 

@@ -7,7 +7,9 @@
 
 #![tactic(auto)]
 
-ghost use Rattle.std.specs.Prelude.{◌≤◌, length, IfOk};
+ghost use Rattle.std.specs.Prelude.{◌≡◌, drop, IfOk};
+ghost use Rattle.std.specs.String.{string_bytes};
+ghost use Rattle.handbook.specs.Pages.{taken};
 
 use anyhow::anyhow;
 use curves::{Bond, Entry};
@@ -35,7 +37,7 @@ fn print_page<'w>(
     name: &String,
     behind: &'w [String],
 ) -> anyhow::Result<&'w [String]>
-    ensures { IfOk result (λ rest. length rest.now ≤ length behind.now) }
+    ensures { IfOk result (λ rest. rest.now ≡ drop (taken (string_bytes name.now)) behind.now) }
 {
     if name.as_str() == "tables" {
         tables::print(rt)?;

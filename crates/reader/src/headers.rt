@@ -9,7 +9,8 @@ mod whole;
 
 pub use whole::check;
 
-// The most fields that names can be given to.
+// The most fields that names can be given to. How many there are is the value's to say, so a header and a line have room for so
+// many, in fixed memory, and a count beside it.
 pub const MOST_FIELDS: usize = 30;
 
 // For each field the place, from 1, at which its name stands in the first line.

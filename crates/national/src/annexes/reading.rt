@@ -29,7 +29,7 @@ fn value_line(text: &[u8]) -> Result<Fields, Refusal>
     header.line(&mut lexer).at_line(VALUE_LINE)
 }
 
-// The numbers that an annex text has on it, by field: as many as an annex has, since each has its name.
+// The numbers on that line, by field: as many as an annex has, since each has its name.
 fn written(text: &[u8]) -> Result<[u32; NUMBERS], Refusal>
     ensures { result ≡ written_of text.now }
 {

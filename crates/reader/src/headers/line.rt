@@ -10,7 +10,7 @@ use crate::headers::{Fields, Header, MOST_FIELDS};
 use refusal::{Located, Refusal};
 use text::{Lexer, value};
 
-// Reads as many values as `values` has room for.
+// Reads as many values as `values` has room for. The places are counted beside the lexer, as those of the names are.
 fn read_values(lexer: &mut Lexer, values: &mut [u32]) -> Result<(), Refusal>
     requires few { length values.old ≤ 30 }
     ensures values { on_ok (λ _. values.new) result ≡ values_of (length values.old) (this_line (ahead lexer.old)) }
@@ -27,7 +27,8 @@ fn read_values(lexer: &mut Lexer, values: &mut [u32]) -> Result<(), Refusal>
     Ok(())
 }
 
-// Sorts values by field, given the place of each field.
+// Sorts values by field, given the place of each field. By index: what `map` makes by a closure that holds the values could not
+// be read off its calls, and nothing is known of what is written through an adapter of `iter_mut`.
 fn sort_by_field(places: &[u32], values: &[u32], fields: &mut [u32])
     requires table { length fields.old ≡ length places.now }
     requires within { all_within (length values.now) places.now ≡ true }

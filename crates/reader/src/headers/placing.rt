@@ -10,7 +10,7 @@ use crate::names::Named;
 use refusal::Refusal;
 use text::Lexer;
 
-// The field of this name. By index, as `Named` has names: a closure that holds what has them could not be read off its calls.
+// The field of this name. By index, as `Named` tells names: a closure that holds what has them could not be read off its calls.
 fn find<N: Named>(named: &N, name: &[u8]) -> Option<usize>
     ensures { Finds name.now (N.names named.now) result }
 {
@@ -22,7 +22,7 @@ fn find<N: Named>(named: &N, name: &[u8]) -> Option<usize>
     None
 }
 
-// Writes down the place of each field, if each has one.
+// Writes down the place of each field, if each has one. By index, as the values of a line are sorted.
 fn all_placed(found: &[Option<u32>], places: &mut [u32]) -> Result<(), Refusal>
     requires table { length places.old ≡ length found.now }
     ensures { on_ok (λ _. places.new) result ≡ all_placed found.now }

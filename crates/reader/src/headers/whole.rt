@@ -13,6 +13,7 @@ pub fn check<N: Named>(named: &N, text: &[u8]) -> Result<usize, Refusal>
     let mut lexer = Lexer::open(text)?;
     let header = Header::read(named, &mut lexer)?;
     let lines = lexer.lines();
+    // The names are text line 1.
     for line in 0..lines {
         header.line(&mut lexer).at_line(line as u32 + 2)?;
     }
